@@ -1,0 +1,4 @@
+-- Laws of the model.
+pub mod Integers
+pub mod Lists
+pub mod FilmF

@@ -1,0 +1,66 @@
+-- Document 01, "Film F at its edges": the film, and its starred lines as one statement.
+use mathlib.Core.Path.{_≡_}
+use mathlib.Core.Bool.{false}
+use mathlib.Core.List.{List, [], _∷_}
+use Prim.Native.Nat.{ℕ}
+use lib.IntN.{ℤ, pos, negsuc}
+use Rattle.model.specs.Gauge.{Gauge}
+use Rattle.model.specs.Film.{Film, slack}
+use Rattle.model.specs.Coefficients.{formed}
+use Rattle.model.specs.Result.{Result}
+use Rattle.model.specs.Margin.{margin}
+use Rattle.model.specs.Run.{RunAnswer, done, stopped, over, runCall}
+use Rattle.model.specs.declared.Counts.{Counts}
+
+-- 1 row, 2 columns, weights 1 1, boundary rows all 1, middle row 3 2 1 1
+abbrev pub gaugeF : ℕ → ℤ → Gauge
+gaugeF ceiling wedge =
+    record {
+      rows = 1;
+      columns = 2;
+      ceiling = ceiling;
+      weights = 1 ∷ 1 ∷ [];
+      thicknesses = 1 ∷ 1 ∷ 1 ∷ 1 ∷ 3 ∷ 2 ∷ 1 ∷ 1 ∷ 1 ∷ 1 ∷ 1 ∷ 1 ∷ [];
+      wedge = wedge;
+    }
+
+abbrev pub filmF : Film
+filmF = formed (gaugeF 100 (pos 100))
+
+abbrev pub zero-field : List ℕ
+zero-field = 0 ∷ 0 ∷ []
+
+-- the report's budget
+abbrev pub ample : ℕ
+ample = 4000000
+
+-- a run with proposals off
+abbrev pub runOn : Film → ℕ → ℕ → List ℕ → Result RunAnswer
+runOn f budget order p = runCall f budget order false p
+
+-- an answer with so many relaxations and raises, and the two pressures that the run leaves
+abbrev pub ends : (Counts → RunAnswer) → ℕ → ℕ → ℕ → ℕ → Result RunAnswer
+ends answer visits raises p q =
+    record { answer = answer (record { visits = visits; raises = raises; accepted = 0 }); lent = p ∷ q ∷ [] }
+
+abbrev pub slacks : Film → List ℕ → List ℤ
+slacks f p = slack f p 0 ∷ slack f p 1 ∷ []
+
+-- the starred lines, one after another
+pub record Edges : Type 0 where
+  pub diagonals : filmF .diagonals ≡ 206 ∷ 51 ∷ []
+  pub links : filmF .rights ≡ 27 ∷ 0 ∷ []
+  pub sources : filmF .sources ≡ negsuc 199 ∷ negsuc 99 ∷ []
+  pub margin-2 : margin filmF ≡ 2
+  pub order-1 : runOn filmF ample 1 zero-field ≡ ends done 5 3 2 4
+  pub order-2 : runOn filmF ample 2 zero-field ≡ runOn filmF ample 0 zero-field
+  pub budget-5 : runOn filmF 5 0 zero-field ≡ ends stopped 5 4 2 4
+  pub budget-6 : runOn filmF 6 0 zero-field ≡ ends done 6 4 2 4
+  pub from-2-4 : runOn filmF 2 0 (2 ∷ 4 ∷ []) ≡ ends done 2 0 2 4
+  pub ceiling-4 : runOn (formed (gaugeF 4 (pos 100))) ample 0 zero-field ≡ ends done 6 4 2 4
+  pub ceiling-3 : runOn (formed (gaugeF 3 (pos 100))) ample 0 zero-field ≡ ends (over 1) 4 3 2 3
+  pub wedge-0 : runOn (formed (gaugeF 100 (pos 0))) ample 0 zero-field ≡ ends done 2 0 0 0
+  pub wedge-0-slacks : slacks (formed (gaugeF 100 (pos 0))) zero-field ≡ pos 0 ∷ pos 0 ∷ []
+  pub wedge-minus : runOn (formed (gaugeF 100 (negsuc 99))) ample 0 zero-field ≡ ends done 2 0 0 0
+  pub wedge-minus-slacks : slacks (formed (gaugeF 100 (negsuc 99))) zero-field ≡ pos 200 ∷ pos 100 ∷ []
+  pub start-3-0 : runOn filmF ample 0 (3 ∷ 0 ∷ []) ≡ ends done 4 1 3 4

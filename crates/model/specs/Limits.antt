@@ -1,0 +1,31 @@
+-- Document 01's limits.
+use Prim.Native.Nat.{ℕ}
+
+-- rows and columns
+abbrev pub sideLimit : ℕ
+sideLimit = 32
+
+-- pressure steps
+abbrev pub ceilingLimit : ℕ
+ceilingLimit = 16777216
+
+abbrev pub thicknessLimit : ℕ
+thicknessLimit = 128
+
+-- either way from 0
+abbrev pub wedgeLimit : ℕ
+wedgeLimit = 1000000000
+
+abbrev pub diagonalLimit : ℕ
+diagonalLimit = 134217728
+
+abbrev pub linkLimit : ℕ
+linkLimit = 16777216
+
+-- either way from 0
+abbrev pub sourceLimit : ℕ
+sourceLimit = 1125899906842624
+
+-- the greatest number whose whole part an estimate takes
+abbrev pub estimateLimit : ℕ
+estimateLimit = 33554432

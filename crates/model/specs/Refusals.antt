@@ -1,0 +1,49 @@
+-- Document 01, "Refusals": their numbers and places, and the order of tests.
+use mathlib.Core.Bool.{Bool, cond}
+use Prim.Native.Nat.{ℕ}
+use lib.Dec.{ltb}
+use Rattle.model.specs.Lists.{firstOf}
+use Rattle.model.specs.declared.Fault.{Fault}
+use Rattle.model.specs.declared.Fault.the-variants as faults
+use Rattle.model.specs.declared.Refusal.{Refusal}
+use Rattle.model.specs.declared.Tested.{Tested}
+use Rattle.model.specs.declared.Tested.the-variants as tests
+
+-- the trade's words are in the comments
+abbrev pub numberOf : Fault → ℕ
+numberOf faults.Truncated = 1 -- cut short
+numberOf faults.Unexpected = 2 -- stray
+numberOf faults.WrongLength = 3 -- misfit
+numberOf faults.BadShape = 4 -- shape
+numberOf faults.BadCeiling = 5 -- ceiling
+numberOf faults.ZeroWeight = 6 -- no weight
+numberOf faults.BadThickness = 7 -- thickness
+numberOf faults.BadWedge = 8 -- wedge
+numberOf faults.NotDominant = 9 -- unheld
+numberOf faults.WrongBuffer = 10 -- buffer
+numberOf faults.BadOrder = 11 -- order
+numberOf faults.StartAboveCeiling = 12 -- start
+numberOf faults.OutOfGrid = 13 -- line
+numberOf faults.BadCoefficient = 14 -- coefficient
+
+-- a test of an input passes, or fails with a refusal's number and place
+pub data Check : Type 0 where
+  pass : Check
+  fail : ℕ → ℕ → Check
+
+abbrev pub checkOf : Tested → Check
+checkOf tests.Fine = pass
+checkOf (tests.Refused r) = fail (numberOf (r .fault)) (r .place)
+
+infixr 40 _orElse_
+-- the first that fails wins
+abbrev pub _orElse_ : Check → Check → Check
+pass orElse y = y
+fail number place orElse y = fail number place
+
+abbrev pub failIf : Bool → ℕ → ℕ → Check
+failIf bad number place = cond bad (fail number place) pass
+
+-- the lowest of the indices below n at which the test finds a fault; `place` gives an index's place
+abbrev pub failFirst : (ℕ → Bool) → ℕ → ℕ → (ℕ → ℕ) → Check
+failFirst bad n number place = failIf (ltb (firstOf bad n) n) number (place (firstOf bad n))

@@ -1,0 +1,94 @@
+// What document 01 says, as definitions: the one place that a reader must believe.
+//
+// This file declares the values that public calls take and answer with. specs/ gives their meaning, a module for each
+// section of the document and in its order: Refusals, Film (coefficients, slack, dominance), Gauge and Coefficients (a film
+// from thicknesses and wedge), Reynolds (the difference form that they stand for), Relaxation, Proposal, Estimate, Run,
+// History, and FilmF (the document's worked example). Every definition computes.
+//
+// proofs/ ties them to the theory of the crate `monotone`: slack and required pressure, the accept test, the orderings, that
+// a film which passes its tests makes every call a good one, and that the formed coefficients are Reynolds' difference
+// form; and it has film F's edges as one theorem.
+
+// A film's shape and ceiling.
+pub struct Head {
+    pub rows: u32,
+    pub columns: u32,
+    pub ceiling: u32,
+}
+
+// Why a call is refused. specs/Refusals has document 01's number of each.
+pub enum Fault {
+    Truncated,
+    Unexpected,
+    WrongLength,
+    BadShape,
+    BadCeiling,
+    ZeroWeight,
+    BadThickness,
+    BadWedge,
+    NotDominant,
+    WrongBuffer,
+    BadOrder,
+    StartAboveCeiling,
+    OutOfGrid,
+    BadCoefficient,
+}
+
+pub struct Refusal {
+    pub fault: Fault,
+    pub place: usize,
+}
+
+// What a test of a call's input finds.
+pub enum Tested {
+    Fine,
+    Refused(Refusal),
+}
+
+// The answer of a relaxation: the cell is quiet, raised to a pressure, or would pass the ceiling.
+pub enum Relaxed {
+    Quiet,
+    Raised(u32),
+    Over(usize),
+    Refused(Refusal),
+}
+
+// The answer to a question for a cell's slack.
+pub enum Slack {
+    Is(i64),
+    Refused(Refusal),
+}
+
+// The answer to a question for a film's margin.
+pub enum Margin {
+    Is(u32),
+    Refused(Refusal),
+}
+
+// The answer to a line proposal: accepted, with the number of cells raised, or rejected.
+pub enum Proposed {
+    Accepted(u32),
+    Rejected,
+    Refused(Refusal),
+}
+
+// The answer to a question for a line's estimate, which is written into a lent slice.
+pub enum Estimated {
+    Written,
+    Refused(Refusal),
+}
+
+// What a run counts: relaxations, raises that they made, and cells raised by accepted proposals.
+pub struct Counts {
+    pub visits: u32,
+    pub raises: u32,
+    pub accepted: u32,
+}
+
+// The answer of a run.
+pub enum Ran {
+    Done(Counts),
+    Stopped(Counts),
+    Over(usize, Counts),
+    Refused(Refusal),
+}
