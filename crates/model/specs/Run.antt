@@ -1,13 +1,13 @@
 -- Document 01, "A run".
 use mathlib.Core.Bool.{Bool, true, false}
 use mathlib.Core.List.{List}
-use Prim.Native.Nat.{ℕ, zero, suc, _+_, _-_, _*_, _%_}
+use Prim.Native.Nat.{ℕ, zero, suc, _+_, _-_, _*_, _/_, _%_}
 use lib.Dec.{eqb}
 use Rattle.monotone.specs.Ordering.{splitOrder}
 use Rattle.monotone.specs.Linear.{ruleOf}
 use Rattle.monotone.specs.Sweep as theory
 use Rattle.model.specs.Refusals.{Check, pass, fail, numberOf}
-use Rattle.model.specs.Film.{Film, sizeOf, rowOf, columnOf, systemOf}
+use Rattle.model.specs.Film.{Film, sizeOf, systemOf}
 use Rattle.model.specs.Checks.{fieldCheck, orderCheck}
 use Rattle.model.specs.Result.{Result}
 use Rattle.model.specs.Proposal.{ProposalAnswer, propose, lineStart}
@@ -17,14 +17,17 @@ use Rattle.model.specs.declared.Ran.{Ran}
 use Rattle.model.specs.declared.Ran.the-variants as answers
 
 -- r + c is even, which it is with rows and columns counted from 0 too
-abbrev pub evenCell : Film → ℕ → Bool
-evenCell f i = eqb ((rowOf f i + columnOf f i) % 2) 0
+abbrev pub evenCell : ℕ → ℕ → Bool
+evenCell columns i = eqb ((i / columns + i % columns) % 2) 0
 
--- the cell at a place of order 0, 1 or 2: by index, by falling index, even cells and then odd ones
-unfoldable pub ordering : Film → ℕ → ℕ → ℕ
-ordering f zero k = k
-ordering f (suc zero) k = sizeOf f - 1 - k
-ordering f (suc (suc o)) k = splitOrder (evenCell f) (sizeOf f) k
+-- the cell at a place of order 0, 1 or 2 of n cells: by index, by falling index, even cells and then odd ones
+unfoldable pub orderOf : ℕ → ℕ → ℕ → ℕ → ℕ
+orderOf columns n zero k = k
+orderOf columns n (suc zero) k = n - 1 - k
+orderOf columns n (suc (suc o)) k = splitOrder (evenCell columns) n k
+
+abbrev pub ordering : Film → ℕ → ℕ → ℕ
+ordering f order = orderOf (f .columns) (sizeOf f) order
 
 -- a field, and how many cells proposals have raised in it so far
 pub record Readied : Type 0 where

@@ -1,0 +1,27 @@
+use native.Mathlib.Omega.{arith}
+use mathlib.Core.Path.{_≡_, ap, _∙_}
+use Rattle.model.specs.Integers.{drop}
+use Rattle.cell.proofs.Limits.{source-kept}
+use Rattle.cell.specs.Cell.{loadOf}
+use borrow.Author.Needs.{needs}
+use Rattle.cell.proofs.Cell.load.Statement.{statement}
+use Rattle.cell.proofs.Cell.load.Tie as tie
+use Rattle.cell.proofs.Cell.load.Reads as reads
+use Rattle.cell.proofs.Cell.load.Lts as lts
+use Rattle.cell.proofs.drop.Reads as drop-reads
+
+drop-requires : tie.Need-drop-requires
+drop-requires c κs = search needs
+
+dropped : (c : tie.After-struct-known) → c .before .drop .result ≡ drop (c .before .before .before .args .self .source)
+dropped c = c .before .drop .ensures ∙ ap drop (source-kept _ (c .before .before .before .pre))
+
+add-result : tie.Need-add-result
+add-result c = omega (arith, dropped c, c .before .before .before .pre)
+
+returns : tie.Need-returns
+unfolding loadOf
+returns c = omega (arith, dropped c)
+
+pub load-spec : {M : Type 1} → statement M
+load-spec = tie.close (tie.spec drop-requires add-result returns)

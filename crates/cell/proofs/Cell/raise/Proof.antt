@@ -1,0 +1,28 @@
+-- `Cell::raise` meets its contract: a cell that bears its load keeps its pressure, any other gets what it requires.
+use mathlib.Core.Path.{_∙_}
+use native.Mathlib.Omega.{arith}
+use borrow.Author.Needs.{needs}
+use Rattle.cell.proofs.Limits.{raise-quiet, raise-up}
+use Rattle.cell.proofs.Cell.raise.Statement.{statement}
+use Rattle.cell.proofs.Cell.raise.Tie as tie
+
+load-requires : tie.Need-load-requires
+load-requires c κs = search needs
+
+bearing-requires : tie.Need-bearing-requires
+bearing-requires c κs = search needs
+
+returns : tie.Need-returns
+returns c = let s = c .before .before .before in raise-quiet _ (s .pre) (s .args .pressure) (omega arith)
+
+required-requires : tie.Need-required-requires
+required-requires c κs = search needs
+
+returns-2 : tie.Need-returns-2
+returns-2 c =
+    let s = c .before .before .before .before in
+    c .required .ensures ∙ raise-up _ (s .pre) (s .args .pressure) (omega arith)
+
+pub raise-spec : {M : Type 1} → statement M
+raise-spec =
+    tie.close (tie.spec load-requires bearing-requires returns required-requires returns-2)

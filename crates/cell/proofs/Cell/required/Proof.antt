@@ -1,0 +1,62 @@
+use native.Mathlib.Omega.{arith}
+use native.Mathlib.Nat.{mul-zero}
+use mathlib.Core.Path.{_≡_, _∙_, sym, ap}
+use Prim.Native.Nat.{ℕ, _+_, _-_, _/_, _≤_}
+use Rattle.model.specs.Relaxation.{requiredFor}
+use Rattle.cell.specs.Cell.{bearingOf, loadOf}
+use Rattle.cell.proofs.Limits.{bearing-small, load-small, bears-required}
+use borrow.Author.Needs.{needs}
+use Rattle.cell.proofs.Cell.required.Statement.{statement}
+use Rattle.cell.proofs.Cell.required.Tie as tie
+use Rattle.cell.proofs.Cell.required.Reads as reads
+use Rattle.cell.proofs.Cell.required.Lts as lts
+use Rattle.cell.proofs.Cell.bearing.Reads as bearing-reads
+use Rattle.cell.proofs.Cell.load.Reads as load-reads
+
+bearing-requires : tie.Need-bearing-requires
+bearing-requires c κs = search needs
+
+load-requires : tie.Need-load-requires
+load-requires c κs = search needs
+
+cast-diagonal : tie.Need-cast-diagonal
+cast-diagonal c = search needs
+
+returns : tie.Need-returns
+returns c =
+    let s = c .before .before .before .before in
+    let l : requiredFor (s .args .self .diagonal) (s .args .self .pull) (s .args .self .source) ≤ 0 = bears-required _ (s .pre) 0 (omega arith) in
+    omega arith
+
+sub-result : tie.Need-sub-result
+sub-result c = search needs
+
+sub-result-2 : tie.Need-sub-result-2
+sub-result-2 c = search needs
+
+add-result : tie.Need-add-result
+add-result c = let s = c .before .before .before .before in omega (arith, load-small _ (s .pre), s .pre)
+
+div-result : tie.Need-div-result
+div-result c = search needs
+
+returns-2 : tie.Need-returns-2
+unfolding bearingOf loadOf
+returns-2 c =
+    let s = c .before .before .before .before in
+    let d = s .args .self .diagonal in
+    ap (λ (x : ℕ). (x + (d - 1)) / d) (omega (arith, mul-zero d))
+
+pub required-spec : {M : Type 1} → statement M
+required-spec =
+    tie.close
+    (tie.spec
+    bearing-requires
+    load-requires
+    cast-diagonal
+    returns
+    sub-result
+    sub-result-2
+    add-result
+    div-result
+    returns-2)

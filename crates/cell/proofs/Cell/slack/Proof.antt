@@ -1,0 +1,34 @@
+use native.Mathlib.Omega.{arith}
+use mathlib.Core.Path.{_≡_, _∙_, sym, ap}
+use lib.IntN.{subℕ}
+use mir.Facts.{toZ-ofZ}
+use borrow.Author.Needs.{sfits-of}
+use Rattle.cell.specs.Cell.{bearingOf, loadOf}
+use Rattle.cell.proofs.Limits.{bearing-small, load-small, slack-split}
+use borrow.Author.Needs.{needs}
+use Rattle.cell.proofs.Cell.slack.Statement.{statement}
+use Rattle.cell.proofs.Cell.slack.Tie as tie
+use Rattle.cell.proofs.Cell.slack.Reads as reads
+use Rattle.cell.proofs.Cell.slack.Lts as lts
+use Rattle.cell.proofs.Cell.bearing.Reads as bearing-reads
+use Rattle.cell.proofs.Cell.load.Reads as load-reads
+use Rattle.cell.proofs.difference.Reads as difference-reads
+
+bearing-requires : tie.Need-bearing-requires
+bearing-requires c κs = search needs
+
+load-requires : tie.Need-load-requires
+load-requires c κs = search needs
+
+difference-requires : tie.Need-difference-requires
+difference-requires c κs =
+    let s = c .before .before in
+    omega (arith, bearing-small _ (s .pre) (s .args .pressure) (s .fits .pressure .fits), load-small _ (s .pre))
+
+returns : tie.Need-returns
+returns c =
+    let s = c .before .before .before in
+    cc (toZ-ofZ (sfits-of (c .difference .ok)), slack-split (s .args .self) (s .args .pressure))
+
+pub slack-spec : {M : Type 1} → statement M
+slack-spec = tie.close (tie.spec bearing-requires load-requires difference-requires returns)

@@ -1,0 +1,71 @@
+// A film's grid in lent slices: loading a cell with its neighbours' pull, and the table of an ordering.
+// Internal: other crates of Film call it.
+//
+// Links that leave the grid are 0 (refusal 14 sees to it), so the pull needs no rows and columns: the neighbours of cell i are
+// i − 1, i + 1, i − C and i + C, as far as there are such cells. proofs/Neighbours shows that this is the sum over the
+// neighbours inside the grid.
+ghost use mathlib.Core.Path.{_≡_};
+ghost use mathlib.Core.List.{List};
+ghost use Prim.Native.Nat.{ℕ, _≤_, _<_, _*_, _^_};
+ghost use lib.ListN.{length, getD, take};
+ghost use Rattle.grid.specs.Pull.{Links, backOf, aheadOf, pullBy, cellBy, Product};
+use cell::Cell;
+
+// The link to the cell that lies `step` before `at`, times that cell's number; 0 if there is none.
+fn pull_back(links: &[u32], numbers: &[u32], at: usize, step: usize) -> u64
+    requires { ⌜ Links (now links) (now numbers) × (at < length (now numbers)) ⌝ }
+    ensures { λ r. ⌜ Product r (backOf (now (links .entry)) (now (numbers .entry)) at step) ⌝ }
+{
+    if at < step {
+        return 0;
+    }
+    let other = at - step;
+    cell::product(links[other], numbers[other])
+}
+
+// The link to the cell that lies `step` after `at`, times that cell's number; 0 if there is none.
+fn pull_ahead(links: &[u32], numbers: &[u32], at: usize, step: usize) -> u64
+    requires { ⌜ Links (now links) (now numbers) × (at < length (now numbers)) ⌝ }
+    requires { ⌜ step ≤ 2 ^ 32 ⌝ }
+    ensures { λ r. ⌜ Product r (aheadOf (now (links .entry)) (now (numbers .entry)) at step) ⌝ }
+{
+    let other = at + step;
+    if numbers.len() <= other {
+        return 0;
+    }
+    cell::product(links[at], numbers[other])
+}
+
+// The sum of link × neighbour's number.
+pub fn pull_at(rights: &[u32], ups: &[u32], columns: usize, numbers: &[u32], at: usize) -> u64
+    requires { ⌜ Links (now rights) (now numbers) × Links (now ups) (now numbers) ⌝ }
+    requires { ⌜ (at < length (now numbers)) × (columns ≤ 2 ^ 32) ⌝ }
+    ensures { λ r. ⌜ (r ≡ pullBy columns (now (rights .entry)) (now (ups .entry)) (now (numbers .entry)) at) × (r ≤ 2 ^ 60) ⌝ }
+{
+    pull_back(rights, numbers, at, 1)
+        + pull_ahead(rights, numbers, at, 1)
+        + (pull_back(ups, numbers, at, columns) + pull_ahead(ups, numbers, at, columns))
+}
+
+// A cell's diagonal, pull and source, with pressures or other numbers of the cells.
+pub fn cell_at(
+    diagonals: &[u32],
+    rights: &[u32],
+    ups: &[u32],
+    sources: &[i64],
+    columns: usize,
+    numbers: &[u32],
+    at: usize,
+) -> Cell
+    requires { ⌜ Links (now rights) (now numbers) × Links (now ups) (now numbers) ⌝ }
+    requires { ⌜ (length (now diagonals) ≡ length (now numbers)) × (length (now sources) ≡ length (now numbers)) ⌝ }
+    requires { ⌜ (at < length (now numbers)) × (columns ≤ 2 ^ 32) ⌝ }
+    ensures { λ r. ⌜ r ≡ cellBy columns (now (diagonals .entry)) (now (rights .entry)) (now (ups .entry)) (now (sources .entry)) (now (numbers .entry)) at ⌝ }
+{
+    let pull = pull_at(rights, ups, columns, numbers, at);
+    Cell {
+        diagonal: diagonals[at],
+        pull: pull,
+        source: sources[at],
+    }
+}
