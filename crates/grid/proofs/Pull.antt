@@ -5,8 +5,11 @@ use Prim.Native.Nat.{ℕ, _+_, _-_, _*_, _≤_, _<_, _^_}
 use native.Mathlib.Nat.{mul-le-mul, mul-zero}
 use native.Mathlib.Omega.{arith}
 use borrow.Author.Tests.{lt-ltb, le-ltb}
+use lib.IntN.{ℤ}
 use lib.ListN.{length, getD, List·getD-eq-default}
-use Rattle.grid.specs.Pull.{Links, backOf, aheadOf, Product}
+use Rattle.cell.specs.Cell.{Bounded}
+use Rattle.grid.specs.Pull.{backOf, aheadOf, pullBy, cellBy, Loaded, Loads}
+use Rattle.cell.specs.declared.Cell.{Cell}
 
 module _ (links numbers : List ℕ) (i k : ℕ) where
   pub back-none : i < k → backOf links numbers i k ≡ 0
@@ -23,3 +26,21 @@ module _ (links numbers : List ℕ) (i k : ℕ) where
 
 pub product-small : (a b : ℕ) → a ≤ 2 ^ 26 → b < 2 ^ 32 → a * b ≤ 2 ^ 58
 product-small a b h l = let m : a * b ≤ 2 ^ 26 * 2 ^ 32 = mul-le-mul {m₁ = b} {m₂ = 2 ^ 32} h (omega arith) in omega arith
+
+-- the cell that was loaded, from its pull
+pub loads : {columns : ℕ} {diagonals rights ups : List ℕ} {sources : List ℤ} {numbers : List ℕ} (i : ℕ) (r : Cell)
+    → Loaded columns diagonals rights ups sources numbers → i < length numbers → r ≡ cellBy columns diagonals rights ups sources numbers i
+    → r .pull ≤ 2 ^ 60 → Loads r (cellBy columns diagonals rights ups sources numbers i)
+unfolding cellBy
+loads i r L h e p =
+    let c = L .cell i h in
+    record {
+      is = e;
+      bounded = record {
+        some = rw e (c .some);
+        diagonal = rw e (c .diagonal-low);
+        pull = p;
+        lift = rw e (c .lift-low);
+        drop = rw e (c .drop-low);
+      };
+    }

@@ -2,10 +2,12 @@
 use mathlib.Core.Path.{_≡_}
 use mathlib.Core.Bool.{cond}
 use mathlib.Core.List.{List}
-use Prim.Native.Nat.{ℕ, _+_, _-_, _*_, _≤_, _^_}
+use Prim.Native.Nat.{ℕ, _+_, _-_, _*_, _≤_, _<_, _^_}
 use lib.Dec.{ltb}
 use lib.IntN.{ℤ, pos}
 use lib.ListN.{length, getD}
+use Rattle.model.specs.Integers.{lift, drop}
+use Rattle.cell.specs.Cell.{Bounded}
 use Rattle.cell.specs.declared.Cell.{Cell}
 
 -- a link for each number, none so large that four products pass their type
@@ -32,3 +34,24 @@ pullBy columns rights ups numbers i =
 unfoldable pub cellBy : ℕ → List ℕ → List ℕ → List ℕ → List ℤ → List ℕ → ℕ → Cell
 cellBy columns diagonals rights ups sources numbers i =
     record { diagonal = getD diagonals i 0; pull = pullBy columns rights ups numbers i; source = getD sources i (pos 0) }
+
+-- a diagonal and a source within the limits that a cell asks for
+pub record Limits (diagonal : ℕ) (source : ℤ) : Type 0 where
+  pub some : 0 < diagonal
+  pub diagonal-low : diagonal ≤ 2 ^ 28
+  pub lift-low : lift source ≤ 2 ^ 60
+  pub drop-low : drop source ≤ 2 ^ 60
+
+-- coefficients for each of the numbers
+pub record Loaded (columns : ℕ) (diagonals rights ups : List ℕ) (sources : List ℤ) (numbers : List ℕ) : Type 0 where
+  pub right : Links rights numbers
+  pub up : Links ups numbers
+  pub diagonals-len : length diagonals ≡ length numbers
+  pub sources-len : length sources ≡ length numbers
+  pub columns-low : columns ≤ 2 ^ 32
+  pub cell : (i : ℕ) → i < length numbers → Limits (getD diagonals i 0) (getD sources i (pos 0))
+
+-- r is that cell, and within its limits
+pub record Loads (r cell : Cell) : Type 0 where
+  pub is : r ≡ cell
+  pub bounded : Bounded r

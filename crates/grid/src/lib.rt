@@ -8,7 +8,7 @@ ghost use mathlib.Core.Path.{_≡_};
 ghost use mathlib.Core.List.{List};
 ghost use Prim.Native.Nat.{ℕ, _≤_, _<_, _*_, _^_};
 ghost use lib.ListN.{length, getD, take};
-ghost use Rattle.grid.specs.Pull.{Links, backOf, aheadOf, pullBy, cellBy, Product};
+ghost use Rattle.grid.specs.Pull.{Links, backOf, aheadOf, Product, pullBy, cellBy, Loaded, Loads};
 use cell::Cell;
 
 // The link to the cell that lies `step` before `at`, times that cell's number; 0 if there is none.
@@ -57,10 +57,8 @@ pub fn cell_at(
     numbers: &[u32],
     at: usize,
 ) -> Cell
-    requires { ⌜ Links (now rights) (now numbers) × Links (now ups) (now numbers) ⌝ }
-    requires { ⌜ (length (now diagonals) ≡ length (now numbers)) × (length (now sources) ≡ length (now numbers)) ⌝ }
-    requires { ⌜ (at < length (now numbers)) × (columns ≤ 2 ^ 32) ⌝ }
-    ensures { λ r. ⌜ r ≡ cellBy columns (now (diagonals .entry)) (now (rights .entry)) (now (ups .entry)) (now (sources .entry)) (now (numbers .entry)) at ⌝ }
+    requires { ⌜ Loaded columns (now diagonals) (now rights) (now ups) (now sources) (now numbers) × (at < length (now numbers)) ⌝ }
+    ensures { λ r. ⌜ Loads r (cellBy columns (now (diagonals .entry)) (now (rights .entry)) (now (ups .entry)) (now (sources .entry)) (now (numbers .entry)) at) ⌝ }
 {
     let pull = pull_at(rights, ups, columns, numbers, at);
     Cell {

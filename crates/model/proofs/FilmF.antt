@@ -3,13 +3,13 @@ use mathlib.Core.Path.{refl}
 use Rattle.monotone.specs.Sweep.{sweep}
 use Rattle.model.specs.Lists.{firstOf}
 use Rattle.model.specs.Film.{beside, across, neighbours}
-use Rattle.model.specs.Checks.{filmFits, badCoefficient, zeroWeight, notDominant, numericCheck}
+use Rattle.model.specs.Checks.{filmFits, badCoefficient, zeroWeight, notDominant, sizeCheck, coefficientCheck, weightCheck, dominanceCheck}
 use Rattle.model.specs.Margin.{margin}
 use Rattle.model.specs.Run.{orderOf, readied, run}
 use Rattle.model.specs.FilmF.{Edges}
 
 pub film-f : Edges
-unfolding sweep firstOf beside across neighbours filmFits badCoefficient zeroWeight notDominant numericCheck margin orderOf readied run
+unfolding sweep firstOf beside across neighbours filmFits badCoefficient zeroWeight notDominant sizeCheck coefficientCheck weightCheck dominanceCheck margin orderOf readied run
 film-f =
     record {
       diagonals = refl;

@@ -1,13 +1,12 @@
 -- Signed numbers as differences of naturals: after these laws, a fact about them is one about naturals.
 use mathlib.Core.Path.{_≡_, refl, sym, ap, ap₂, _∙_}
-use mathlib.Core.Bool.{Bool, true, false}
 use Prim.Native.Nat.{ℕ, zero, suc, _+_, _-_, _*_, _≤_, _<_}
 use native.Mathlib.Decide.{decLt}
 use native.Mathlib.Nat.{mul-le-mul-left}
 use native.Mathlib.Omega.{arith}
 use borrow.Author.Tests.{lt-ltb, le-ltb, le-leb, lt-leb}
 use lib.Dec.{leb, ltb}
-use lib.IntN.{ℤ, pos, negsuc, negℤ, subℕ, _+ℤ_, _-ℤ_, _*ℤ_, *ℤ-zero}
+use lib.IntN.{ℤ, pos, negsuc, negℤ, subℕ, _+ℤ_, _-ℤ_, _*ℤ_}
 use Rattle.model.specs.Integers.{negative, atMostZero, lift, drop}
 
 pub sub-lt : (a b : ℕ) → a < b → subℕ a b ≡ negsuc (b - suc a)
@@ -76,13 +75,13 @@ pub mul-sub : (k a b : ℕ) → pos k *ℤ subℕ a b ≡ subℕ (k * a) (k * b)
 mul-sub k a b =
     by-order a b
     (λ h.
-        ap (λ (z : ℤ). pos k *ℤ z) (sub-lt a b h)
-        ∙ neg-pos (k * suc (b - suc a))
-        ∙ sub-same 0 (k * suc (b - suc a)) (k * a) (k * b) (omega (arith, grows a b (omega arith), ap (λ t. k * t) (suc-diff a b h))))
+    ap (λ (z : ℤ). pos k *ℤ z) (sub-lt a b h)
+    ∙ neg-pos (k * suc (b - suc a))
+    ∙ sub-same 0 (k * suc (b - suc a)) (k * a) (k * b) (omega (arith, grows a b (omega arith), ap (λ t. k * t) (suc-diff a b h))))
     (λ h.
-        ap (λ (z : ℤ). pos k *ℤ z) (sub-le a b h)
-        ∙ ap pos (omega (arith, grows b a h))
-        ∙ sym (sub-le (k * a) (k * b) (mul-le-mul-left k h)))
+    ap (λ (z : ℤ). pos k *ℤ z) (sub-le a b h)
+    ∙ ap pos (omega (arith, grows b a h))
+    ∙ sym (sub-le (k * a) (k * b) (mul-le-mul-left k h)))
   where
     suc-diff : (a b : ℕ) → a < b → suc (b - suc a) ≡ b - a
     suc-diff a b h = omega arith

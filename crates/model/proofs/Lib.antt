@@ -1,4 +1,11 @@
 -- Laws of the model.
 pub mod Integers
 pub mod Lists
+pub mod Reynolds
+pub mod Film
+pub mod Checks
+pub mod Proposal
+pub mod Estimate
+pub mod Run
+pub mod History
 pub mod FilmF

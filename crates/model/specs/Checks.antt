@@ -61,17 +61,26 @@ lineCheck f line = failIf (outside line 1 (f .rows)) 13 0
 abbrev pub cellCheck : Film → ℕ → Check
 cellCheck f i = failIf (leb (sizeOf f) i) 13 0
 
--- The order of tests, once for all calls. `fits` says whether a call's other slices have their lengths; `order`, `start` and
--- `place` are its tests 11, 12 and 13, `pass` where it has no such input.
-unfoldable pub numericCheck : Film → Bool → Check → Check → Check → Check
-numericCheck f fits order start place =
+-- 4, 5 and 10: `fits` says whether the call's other slices have their lengths
+unfoldable pub sizeCheck : Film → Bool → Check
+sizeCheck f fits =
     shapeCheck (f .rows) 0 (f .columns) 0 orElse ceilingCheck (f .ceiling) 0 orElse failIf (not (filmFits f && fits)) 10 0
-    orElse failFirst (badCoefficient f) (sizeOf f) 14 (λ i. i)
-    orElse failFirst (zeroWeight f) (sizeOf f) 6 (λ i. i)
-    orElse failFirst (notDominant f) (sizeOf f) 9 (λ i. i)
-    orElse order
-    orElse start
-    orElse place
+
+-- 14, 6 and 9
+unfoldable pub coefficientCheck : Film → Check
+coefficientCheck f = failFirst (badCoefficient f) (sizeOf f) 14 (λ i. i)
+
+unfoldable pub weightCheck : Film → Check
+weightCheck f = failFirst (zeroWeight f) (sizeOf f) 6 (λ i. i)
+
+unfoldable pub dominanceCheck : Film → Check
+dominanceCheck f = failFirst (notDominant f) (sizeOf f) 9 (λ i. i)
+
+-- The order of tests, once for all calls: 4, 5, 10, 14, 6, 9, 11, 12, 13. `order`, `start` and `place` are a call's tests 11, 12
+-- and 13, `pass` where it has no such input.
+abbrev pub numericCheck : Film → Bool → Check → Check → Check → Check
+numericCheck f fits order start place =
+    sizeCheck f fits orElse coefficientCheck f orElse weightCheck f orElse dominanceCheck f orElse order orElse start orElse place
 
 -- the film's own tests
 abbrev pub filmCheck : Film → Check

@@ -8,6 +8,7 @@ pub mod Film
 pub mod Coefficients
 pub mod Reynolds
 pub mod Checks
+pub mod Accepted
 pub mod Result
 pub mod Relaxation
 pub mod Proposal

@@ -8,7 +8,7 @@ use native.Mathlib.Nat.{le-trans, mul-le-mul-left}
 use native.Mathlib.Omega.{arith}
 use borrow.Author.Tests.{leb-true}
 use lib.Dec.{leb}
-use lib.ListN.{length, getD, replicate, length-replicate}
+use lib.ListN.{getD, replicate, length-replicate}
 use Rattle.monotone.specs.Field.{total, _⊑_}
 use Rattle.monotone.specs.Rule.{Rule, Monotone, Bounded, Feasible, Start, Rises, Least}
 use Rattle.monotone.specs.Sweep.{Answer, done, over, stopped, Swept}

@@ -2,14 +2,13 @@
 use mathlib.Core.Path.{_≡_}
 use mathlib.Core.Logic.{_↔_}
 use mathlib.Core.List.{List}
-use Prim.Native.Nat.{ℕ, suc, _+_, _-_, _*_, _/_, _≤_, _<_, zero-le}
+use Prim.Native.Nat.{ℕ, _+_, _-_, _*_, _/_, _≤_, _<_, zero-le}
 use native.Mathlib.Nat.{le-trans, le-refl, mul-comm, add-mul, div-lt-iff-lt-mul}
 use native.Mathlib.Omega.{arith}
 use lib.ListN.{length, getD, List·getD-eq-default}
 use Rattle.monotone.specs.Field.{_⊑_}
-use Rattle.monotone.specs.Rule.{Rule, Monotone, Bounded, Satisfied, Feasible, Rises}
+use Rattle.monotone.specs.Rule.{Monotone, Bounded, Satisfied, Rises}
 use Rattle.monotone.specs.Linear.{System, load, bearing, requiredOf, ruleOf, Positive, Dominant}
-use Rattle.monotone.proofs.Order.{feasible-satisfied}
 use Rattle.monotone.proofs.Compare.{pull-mono, pos-left, compare}
 
 -- a pressure of at least what is required bears the load, and no lower one does

@@ -1,9 +1,8 @@
 -- Orderings that name every cell once: by index, by falling index, and those that pass a test first.
 use mathlib.Core.Path.{_≡_, refl, sym, ap, _∙_}
 use mathlib.Core.Bool.{Bool, true, false, not, cond, true≢false}
-use mathlib.Core.Logic.{_⊎_, inl, inr}
 use mathlib.Core.List.{List, [], _∷_, _++_}
-use Prim.Native.Nat.{ℕ, zero, suc, _+_, _-_, _≤_, _<_, suc-le-suc}
+use Prim.Native.Nat.{ℕ, zero, suc, _+_, _-_, _<_, suc-le-suc}
 use native.Mathlib.Nat.{le-antisymm, le-of-suc-le-suc, lt-suc-self}
 use native.Mathlib.Decide.{decLt}
 use native.Mathlib.Omega.{arith}

@@ -7,7 +7,7 @@ use native.Mathlib.Omega.{arith}
 use borrow.Author.Tests.{le-leb, lt-leb, eq-eqb, ne-eqb}
 use lib.ListN.{length, getD, length-set}
 use Rattle.monotone.specs.Rule.{Rule}
-use Rattle.monotone.specs.Sweep.{done, over, stopped, State, Swept, begin, relax, cellOf, relaxOf, kept, raised, exceeded, close, turn, sweep}
+use Rattle.monotone.specs.Sweep.{done, over, stopped, State, Swept, begin, cellOf, kept, raised, exceeded, sweep}
 use Rattle.monotone.proofs.Sweep.{next-inside}
 
 module _ (F : Rule) (order : ℕ → ℕ) where

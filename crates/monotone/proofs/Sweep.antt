@@ -1,19 +1,19 @@
 -- What holds of a sweep from any bounded field (`sweep-outcome`), and what follows by its answer.
-use mathlib.Core.Path.{_≡_, refl, sym, ap, _∙_, subst}
+use mathlib.Core.Path.{_≡_, refl, subst}
 use mathlib.Core.Logic.{_⊎_, inl, inr, ⊎-elim}
 use mathlib.Core.Bool.{Bool, true, false, cond}
 use mathlib.Core.List.{List}
 use Prim.Native.Nat.{ℕ, zero, suc, _+_, _-_, _*_, _≤_, _<_, zero-le}
-use native.Mathlib.Nat.{le-refl, le-trans, mul-add, mul-le-mul-left}
-use native.Mathlib.Decide.{decLe, decLt, ℕ-discrete}
+use native.Mathlib.Nat.{le-trans, mul-add, mul-le-mul-left}
+use native.Mathlib.Decide.{decLt, ℕ-discrete}
 use native.Mathlib.Omega.{arith}
-use borrow.Author.Tests.{leb-true, leb-false, eqb-true, eqb-false, le-leb, lt-leb, eq-eqb, ne-eqb}
+use borrow.Author.Tests.{leb-true, leb-false, eqb-true, eqb-false}
 use lib.Dec.{leb, eqb}
-use lib.ListN.{length, getD, set, length-set}
+use lib.ListN.{getD, length-set}
 use Rattle.monotone.specs.Field.{total, _⊑_}
-use Rattle.monotone.specs.Rule.{Rule, Monotone, Bounded, Satisfied, Feasible, Rises, LeastAbove}
+use Rattle.monotone.specs.Rule.{Rule, Monotone, Bounded, Satisfied, Feasible, LeastAbove}
 use Rattle.monotone.specs.Ordering.{Permutes}
-use Rattle.monotone.specs.Sweep.{Relaxation, quiet, raise, exceed, Answer, done, over, stopped, State, Swept, relax, next, begin, cellOf, relaxOf, kept, raised, exceeded, close, turn, sweep}
+use Rattle.monotone.specs.Sweep.{Relaxation, quiet, raise, exceed, Answer, done, over, stopped, State, Swept, relax, next, begin, cellOf, relaxOf, kept, raised, close, turn, sweep}
 use Rattle.monotone.specs.Outcome.{Risen, Says, Outcome}
 use Rattle.monotone.proofs.Order.{feasible-satisfied, rises-refl, ⊑-trans, raise-⊑, raise-under, set-under, total-set}
 use Rattle.monotone.proofs.Compare.{pos-right}

@@ -1,7 +1,8 @@
+-- `cell::difference` meets its contract.
 use native.Mathlib.Omega.{arith}
-use Prim.Native.Nat.{ℕ, suc, _+_, _-_, _<_, _^_}
+use Prim.Native.Nat.{suc, _-_}
 use mathlib.Core.Path.{_≡_, _∙_, sym, ap}
-use lib.IntN.{ℤ, pos, negsuc, subℕ, _-ℤ_}
+use lib.IntN.{ℤ, pos, negsuc, _-ℤ_}
 use mir.Syntax.{w64}
 use mir.Val.{SFits, toZ}
 use mir.Facts.{toZ-ofZ, toZ-pos}
@@ -9,8 +10,6 @@ use Rattle.model.proofs.Integers.{sub-lt, sub-le, sub-pos}
 use borrow.Author.Needs.{needs}
 use Rattle.cell.proofs.difference.Statement.{statement}
 use Rattle.cell.proofs.difference.Tie as tie
-use Rattle.cell.proofs.difference.Reads as reads
-use Rattle.cell.proofs.difference.Lts as lts
 
 met : (c : tie.Then1) → pos 0 -ℤ toZ w64 (c .before .args .b - c .before .args .a) ≡ negsuc (c .before .args .b - suc (c .before .args .a))
 met c =

@@ -1,15 +1,14 @@
 -- `cell::drop` meets its contract, by what is known of a number below 0 or not.
 -- Assumes nothing.
 use native.Mathlib.Omega.{arith}
-use mathlib.Core.Path.{_≡_, sym}
+use mathlib.Core.Path.{sym}
 use mir.Syntax.{w64}
 use mir.Facts.{toZ-ofZ}
-use lib.IntN.{pos, _+ℤ_}
-use lib.Signed.{ltZ}
-use mir.Val.{SFits, Fits, toZ, ofZ}
+use lib.IntN.{pos}
+use mir.Val.{SFits}
 use Prim.Native.Nat.{_-_}
 use Rattle.model.specs.Integers.{drop}
-use Rattle.cell.proofs.Signed.{Below, below, Above, above}
+use Rattle.cell.proofs.Signed.{Below, below, above}
 use Rattle.cell.proofs.drop.Statement.{statement}
 use Rattle.cell.proofs.drop.Tie as tie
 

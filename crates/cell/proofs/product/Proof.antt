@@ -1,11 +1,10 @@
+-- `cell::product` meets its contract.
 use Prim.Native.Nat.{_*_, _-_, _≤_, _^_}
 use native.Mathlib.Nat.{mul-le-mul}
 use native.Mathlib.Omega.{arith}
 use borrow.Author.Needs.{needs}
 use Rattle.cell.proofs.product.Statement.{statement}
 use Rattle.cell.proofs.product.Tie as tie
-use Rattle.cell.proofs.product.Reads as reads
-use Rattle.cell.proofs.product.Lts as lts
 
 mul-result : tie.Need-mul-result
 mul-result c =

@@ -2,6 +2,7 @@
 use mir.Facts.{toZ-ofZ}
 use borrow.Author.Needs.{needs, sfits-of}
 use Rattle.grid.specs.Pull.{cellBy}
+use Rattle.grid.proofs.Pull.{loads}
 use Rattle.grid.proofs.cell_at.Statement.{statement}
 use Rattle.grid.proofs.cell_at.Tie as tie
 
@@ -22,7 +23,10 @@ shared-slice-copy-out-t14 c = search needs
 
 returns : tie.Need-returns
 unfolding cellBy
-returns c = rw (toZ-ofZ (sfits-of (c .t14 .given)), c .before .before .pull-at .ensures .0)
+returns c =
+    let s = c .before .before .before .before .before .before .before in
+    loads (s .args .at) _ (s .pre .0) (s .pre .1) (rw (toZ-ofZ (sfits-of (c .t14 .given)), c .before .before .pull-at .ensures .0))
+    (c .before .before .pull-at .ensures .1)
 
 pub cell-at-spec : {M : Type 1} → statement M
 cell-at-spec =

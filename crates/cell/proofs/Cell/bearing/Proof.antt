@@ -1,3 +1,4 @@
+-- `cell::Cell::bearing` meets its contract.
 use native.Mathlib.Omega.{arith}
 use mathlib.Core.Path.{_≡_, ap, _∙_}
 use Rattle.model.specs.Integers.{lift}
@@ -6,10 +7,6 @@ use Rattle.cell.proofs.Limits.{product-small, source-kept}
 use borrow.Author.Needs.{needs}
 use Rattle.cell.proofs.Cell.bearing.Statement.{statement}
 use Rattle.cell.proofs.Cell.bearing.Tie as tie
-use Rattle.cell.proofs.Cell.bearing.Reads as reads
-use Rattle.cell.proofs.Cell.bearing.Lts as lts
-use Rattle.cell.proofs.lift.Reads as lift-reads
-use Rattle.cell.proofs.product.Reads as product-reads
 
 product-requires : tie.Need-product-requires
 product-requires c κs = search needs

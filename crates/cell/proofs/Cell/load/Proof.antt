@@ -1,3 +1,4 @@
+-- `cell::Cell::load` meets its contract.
 use native.Mathlib.Omega.{arith}
 use mathlib.Core.Path.{_≡_, ap, _∙_}
 use Rattle.model.specs.Integers.{drop}
@@ -6,9 +7,6 @@ use Rattle.cell.specs.Cell.{loadOf}
 use borrow.Author.Needs.{needs}
 use Rattle.cell.proofs.Cell.load.Statement.{statement}
 use Rattle.cell.proofs.Cell.load.Tie as tie
-use Rattle.cell.proofs.Cell.load.Reads as reads
-use Rattle.cell.proofs.Cell.load.Lts as lts
-use Rattle.cell.proofs.drop.Reads as drop-reads
 
 drop-requires : tie.Need-drop-requires
 drop-requires c κs = search needs

@@ -1,17 +1,14 @@
+-- `cell::Cell::required` meets its contract.
 use native.Mathlib.Omega.{arith}
 use native.Mathlib.Nat.{mul-zero}
-use mathlib.Core.Path.{_≡_, _∙_, sym, ap}
+use mathlib.Core.Path.{ap}
 use Prim.Native.Nat.{ℕ, _+_, _-_, _/_, _≤_}
 use Rattle.model.specs.Relaxation.{requiredFor}
 use Rattle.cell.specs.Cell.{bearingOf, loadOf}
-use Rattle.cell.proofs.Limits.{bearing-small, load-small, bears-required}
+use Rattle.cell.proofs.Limits.{load-small, bears-required}
 use borrow.Author.Needs.{needs}
 use Rattle.cell.proofs.Cell.required.Statement.{statement}
 use Rattle.cell.proofs.Cell.required.Tie as tie
-use Rattle.cell.proofs.Cell.required.Reads as reads
-use Rattle.cell.proofs.Cell.required.Lts as lts
-use Rattle.cell.proofs.Cell.bearing.Reads as bearing-reads
-use Rattle.cell.proofs.Cell.load.Reads as load-reads
 
 bearing-requires : tie.Need-bearing-requires
 bearing-requires c κs = search needs

@@ -1,18 +1,11 @@
+-- `cell::Cell::slack` meets its contract.
 use native.Mathlib.Omega.{arith}
-use mathlib.Core.Path.{_≡_, _∙_, sym, ap}
-use lib.IntN.{subℕ}
 use mir.Facts.{toZ-ofZ}
 use borrow.Author.Needs.{sfits-of}
-use Rattle.cell.specs.Cell.{bearingOf, loadOf}
 use Rattle.cell.proofs.Limits.{bearing-small, load-small, slack-split}
 use borrow.Author.Needs.{needs}
 use Rattle.cell.proofs.Cell.slack.Statement.{statement}
 use Rattle.cell.proofs.Cell.slack.Tie as tie
-use Rattle.cell.proofs.Cell.slack.Reads as reads
-use Rattle.cell.proofs.Cell.slack.Lts as lts
-use Rattle.cell.proofs.Cell.bearing.Reads as bearing-reads
-use Rattle.cell.proofs.Cell.load.Reads as load-reads
-use Rattle.cell.proofs.difference.Reads as difference-reads
 
 bearing-requires : tie.Need-bearing-requires
 bearing-requires c κs = search needs

@@ -1,0 +1,95 @@
+-- The bridge from signed slack to naturals; and that a film's feasible fields and least field are those of its rule in the theory.
+use mathlib.Core.Path.{_≡_, refl, sym, ap, _∙_}
+use mathlib.Core.Logic.{_↔_, ⊎-elim}
+use mathlib.Core.Bool.{false}
+use mathlib.Core.List.{List}
+use Prim.Native.Nat.{ℕ, _+_, _*_, _≤_, _<_, zero-le}
+use native.Mathlib.Nat.{le-antisymm}
+use native.Mathlib.Decide.{decLt}
+use native.Mathlib.Omega.{arith}
+use borrow.Author.Tests.{ltb-false, le-ltb}
+use lib.Dec.{leb, ltb}
+use lib.IntN.{ℤ}
+use lib.ListN.{length, getD, List·getD-eq-default}
+use lib.Seq.{ext-getD}
+use Rattle.monotone.specs.Rule as theory
+use Rattle.monotone.specs.Linear.{ruleOf, Positive}
+use Rattle.monotone.proofs.Linear.{required-enough, required-least, linear-monotone}
+use Rattle.monotone.proofs.History.{least-or-none}
+use Rattle.model.specs.Integers.{negative, atMostZero, lift, drop}
+use Rattle.model.specs.Film.{Film, sizeOf, slackOf, Feasible, Least, systemOf}
+use Rattle.model.specs.Relaxation.{requiredFor}
+use Rattle.model.proofs.Integers.{sub-source, negative-sub, atMostZero-sub}
+
+-- The sign of a slack: what bears a cell (diagonal × pressure and the positive part of the source) against what it has to bear (the
+-- pull and the negative part of the source).
+module _ (d pull : ℕ) (s : ℤ) (v : ℕ) where
+  pub slack-negative : negative (slackOf d pull s v) ≡ ltb (d * v + lift s) (pull + drop s)
+  slack-negative = ap negative (sub-source (d * v) pull s) ∙ negative-sub (d * v + lift s) (pull + drop s)
+
+  pub slack-atMostZero : atMostZero (slackOf d pull s v) ≡ leb (d * v + lift s) (pull + drop s)
+  slack-atMostZero = ap atMostZero (sub-source (d * v) pull s) ∙ atMostZero-sub (d * v + lift s) (pull + drop s)
+
+  -- what a cell requires (document 01: its need) is the least pressure whose slack is not negative
+  pub required-slack : 0 < d → (negative (slackOf d pull s v) ≡ false) ↔ (requiredFor d pull s ≤ v)
+  required-slack h = (
+    λ e. required-least d (lift s) (pull + drop s) v h (ltb-false _ _ (sym slack-negative ∙ e)),
+    λ l. slack-negative ∙ le-ltb _ _ (required-enough d (lift s) (pull + drop s) v h l),
+  )
+
+-- past its last cell a field counts as 0, so that the ceiling need be tested in cells only
+pub bounded-cells : {F : theory.Rule} {p : List ℕ} → length p ≡ F .size → ((i : ℕ) → i < F .size → getD p i 0 ≤ F .ceiling)
+    → theory.Bounded F p
+bounded-cells {F} {p} e h = record { len = e; low = cell }
+  where
+    cell : (i : ℕ) → getD p i 0 ≤ F .ceiling
+    cell i = elim (decLt i (F .size)) [ yes l ↦ h i l | no l ↦ rw (List·getD-eq-default p 0 {n = i} (omega arith)) zero-le ]
+
+-- a film whose diagonals are all positive
+module _ (f : Film) (P : Positive (systemOf f)) where
+  -- a field meets the film exactly where it is feasible in the theory
+  pub feasible-to : {p : List ℕ} → Feasible f p → theory.Feasible (ruleOf (systemOf f)) p
+  feasible-to m =
+      record {
+        bounded = bounded-cells (m .len) (m .low);
+        met = λ i h. (required-slack _ _ _ _ (P .diagonal i h)) .0 (m .met i h);
+      }
+
+  pub feasible-from : {p : List ℕ} → theory.Feasible (ruleOf (systemOf f)) p → Feasible f p
+  feasible-from m =
+      record {
+        len = m .bounded .len;
+        low = λ i _. m .bounded .low i;
+        met = λ i h. (required-slack _ _ _ _ (P .diagonal i h)) .1 (m .met i h);
+      }
+
+  -- the theory's least field is document 01's: it takes the lowest pressure of each cell itself
+  pub least-is : {q : List ℕ} → theory.Least (ruleOf (systemOf f)) q → Least f q
+  least-is {q} L =
+      record {
+        len = L .feasible .bounded .len;
+        under = λ i _ z m. (L .under z (feasible-to m)) .at i;
+        taken = λ i _. (q, feasible-from (L .feasible), refl);
+      }
+
+  -- two least fields are the same
+  pub least-one : {p q : List ℕ} → Least f p → Least f q → p ≡ q
+  least-one {p} {q} A B =
+      ext-getD 0 p q (A .len ∙ sym (B .len))
+      (λ i h. le-antisymm (lower A B i (omega (arith, A .len))) (lower B A i (omega (arith, A .len))))
+    where
+      lower : {p q : List ℕ} → Least f p → Least f q → (i : ℕ) → i < sizeOf f → getD p i 0 ≤ getD q i 0
+      lower A B i h = let t = B .taken i h in omega (arith, A .under i h (t .0) (t .1), t .2)
+
+  -- where any field meets the film, there is a least field, and it meets the film too
+  pub least-exists : {z : List ℕ} → Feasible f z → (q : List ℕ) × Least f q × Feasible f q
+  least-exists {z} m =
+      ⊎-elim (λ l. (l .0, least-is (l .1), feasible-from (l .1 .feasible))) (λ n. absurd (n z (feasible-to m)))
+      (least-or-none (ruleOf (systemOf f)) (linear-monotone (systemOf f) P))
+
+  -- so does what document 01 calls the least field: its lowest pressures are taken by fields that meet the film, and it is the only one
+  pub least-feasible : {q : List ℕ} → Least f q → Feasible f q
+  least-feasible L =
+      let t = L .taken 0 (P .some) in
+      let l = least-exists (t .1) in
+      rw (least-one L (l .1)) (l .2)

@@ -1,0 +1,113 @@
+-- Runs: each order names every cell once, the program's own proposals are sound, and a run on an accepted film is a good call: Done
+-- leaves the least field at or above the start that meets the film, and Over means that no field at or above the start meets it.
+use mathlib.Core.Path.{_≡_, refl}
+use mathlib.Core.Bool.{Bool, true, false}
+use mathlib.Core.List.{List}
+use Prim.Native.Nat.{ℕ, zero, suc, _+_, _-_, _*_, _≤_}
+use lib.ListN.{length}
+use Rattle.monotone.specs.Field.{total}
+use Rattle.monotone.specs.Rule.{Rule, Bounded, Rises, LeastAbove}
+use Rattle.monotone.specs.Ordering.{Permutes}
+use Rattle.monotone.specs.Sweep as theory
+use Rattle.monotone.specs.Outcome.{Outcome}
+use Rattle.monotone.specs.Linear.{ruleOf}
+use Rattle.monotone.specs.History.{Verdict, Good, verdictOf}
+use Rattle.monotone.proofs.Order.{feasible-satisfied, rises-refl, rises-trans}
+use Rattle.monotone.proofs.Ordering.{permutes-up, permutes-down, permutes-split}
+use Rattle.monotone.proofs.Sweep.{sweep-outcome}
+use Rattle.monotone.proofs.Linear.{linear-monotone}
+use Rattle.monotone.proofs.History.{good-sweep, call-visits}
+use Rattle.model.specs.Film.{Film, sizeOf, systemOf}
+use Rattle.model.specs.Proposal.{lineStart}
+use Rattle.model.specs.Estimate.{estimate, estimateAt}
+use Rattle.model.specs.Run.{evenCell, orderOf, ordering, Readied, proposeOwn, proposeLines, readied, RunAnswer, done, stopped, over, refused, countsOf, endOf, run}
+use Rattle.model.specs.History.{runVerdict}
+use Rattle.model.specs.declared.Counts.{Counts}
+use Rattle.model.proofs.Lists.{tabulate-length}
+use Rattle.model.specs.Accepted.{Accepted}
+use Rattle.model.proofs.Checks.{accepted-positive}
+use Rattle.model.proofs.Proposal.{propose-rises}
+
+-- each order names every cell once
+pub order-permutes : (columns n order : ℕ) → Permutes n (orderOf columns n order)
+unfolding orderOf
+order-permutes columns n zero = permutes-up n
+order-permutes columns n (suc zero) = permutes-down n
+order-permutes columns n (suc (suc o)) = permutes-split (evenCell columns) n
+
+-- an estimate has a number for each column
+pub estimate-length : (f : Film) (p : List ℕ) (start : ℕ) → length (estimate f p start) ≡ f .columns
+unfolding estimate
+estimate-length f p start = tabulate-length (f .columns) (estimateAt f p start)
+
+-- a run's verdict is that of its sweep
+verdict-end : (n budget : ℕ) (a : theory.Answer) (c : Counts) → runVerdict n budget (endOf a c) ≡ verdictOf n budget a
+verdict-end n budget theory.done c = refl
+verdict-end n budget (theory.over i) c = refl
+verdict-end n budget theory.stopped c = refl
+
+-- how many relaxations an answer counts
+abbrev pub visitsOf : RunAnswer → ℕ
+visitsOf (done c) = c .visits
+visitsOf (stopped c) = c .visits
+visitsOf (over i c) = c .visits
+visitsOf (refused number place) = 0
+
+visits-end : (a : theory.Answer) (s : theory.State) (accepted : ℕ) → visitsOf (endOf a (countsOf s accepted)) ≡ s .visits
+visits-end theory.done s accepted = refl
+visits-end (theory.over i) s accepted = refl
+visits-end theory.stopped s accepted = refl
+
+-- a good call that is Done holds the least feasible field at or above its start
+pub good-least : {F : Rule} {p q : List ℕ} → Good F p q Verdict.done → LeastAbove F p q
+good-least g =
+    record {
+      feasible = g .told;
+      above = g .rises .rose;
+      under = λ z m. g .rises .under z (feasible-satisfied m);
+    }
+
+module _ (f : Film) (A : Accepted f) where
+  -- the program's own proposal for a line, and for lines 1 to n
+  own-rises : (line : ℕ) (s : Readied) → Bounded (ruleOf (systemOf f)) (s .field)
+      → Rises (ruleOf (systemOf f)) (s .field) (proposeOwn f line s .field)
+  unfolding proposeOwn
+  own-rises line s B = propose-rises f _ _ _ A B (estimate-length f (s .field) (lineStart f line))
+
+  pub lines-rise : (n : ℕ) (s : Readied) → Bounded (ruleOf (systemOf f)) (s .field)
+      → Rises (ruleOf (systemOf f)) (s .field) (proposeLines f n s .field)
+  unfolding proposeLines
+  lines-rise zero s B = rises-refl B
+  lines-rise (suc n) s B = let R = lines-rise n s B in rises-trans R (own-rises (suc n) (proposeLines f n s) (R .bounded))
+
+  -- the proposals before the first relaxation
+  pub readied-rises : (budget : ℕ) (on : Bool) (p : List ℕ) → Bounded (ruleOf (systemOf f)) p
+      → Rises (ruleOf (systemOf f)) p (readied f budget on p .field)
+  unfolding readied
+  readied-rises zero on p B = rises-refl B
+  readied-rises (suc budget) true p B = lines-rise (f .rows) (record { field = p; accepted = 0 }) B
+  readied-rises (suc budget) false p B = rises-refl B
+
+  module _ (budget order : ℕ) (on : Bool) (p : List ℕ) (B : Bounded (ruleOf (systemOf f)) p) where
+    -- the sweep of a run, from the readied field
+    run-outcome : Outcome (ruleOf (systemOf f)) (readied f budget on p .field) budget
+        (theory.sweep (ruleOf (systemOf f)) (ordering f order) budget (theory.begin (readied f budget on p .field)))
+    run-outcome =
+        sweep-outcome _ _ (linear-monotone (systemOf f) (accepted-positive A)) (order-permutes (f .columns) (sizeOf f) order) _ budget
+        ((readied-rises budget on p B) .bounded)
+
+    -- it is a good call
+    pub run-good : Good (ruleOf (systemOf f)) p (run f budget order on p .lent)
+        (runVerdict (sizeOf f) budget (run f budget order on p .answer))
+    unfolding run
+    run-good = rw verdict-end (good-sweep _ (readied-rises budget on p B) run-outcome)
+
+    -- relaxations, by how far the total rose
+    pub run-visits : visitsOf (run f budget order on p .answer) ≤ sizeOf f * (1 + (total (run f budget order on p .lent) - total p))
+    unfolding run
+    run-visits = rw visits-end (call-visits (readied-rises budget on p B) run-outcome)
+
+    -- Done holds the least field at or above the start that meets the film
+    pub run-done-least : (c : Counts) → run f budget order on p .answer ≡ done c
+        → LeastAbove (ruleOf (systemOf f)) p (run f budget order on p .lent)
+    run-done-least c e = good-least (rw e at run-good)
