@@ -43,11 +43,12 @@ pub record Going (F : Rule) (order : ℕ → ℕ) (budget : ℕ) (p : List ℕ) 
   pub few : s .quiets < F .size
   pub within : s .visits ≤ budget
   pub some : s .raises ≤ s .visits
+  pub calm : s .quiets ≤ s .visits
   pub same : sweep F order (budget - s .visits) s ≡ sweep F order budget (begin p)
 
 pub going-begin : (F : Rule) (order : ℕ → ℕ) (budget : ℕ) (p : List ℕ) → 0 < F .size → length p ≡ F .size → Going F order budget p (begin p)
 going-begin F order budget p h e =
-    record { len = e; inside = h; few = h; within = omega arith; some = omega arith; same = rw sub-zero }
+    record { len = e; inside = h; few = h; within = omega arith; some = omega arith; calm = omega arith; same = rw sub-zero }
 
 module _ {F : Rule} {order : ℕ → ℕ} {budget : ℕ} {p : List ℕ} (s : State) (G : Going F order budget p s) where
   pub going-stopped : budget ≤ s .visits → sweep F order budget (begin p) ≡ record { answer = stopped; last = s }
@@ -70,6 +71,7 @@ module _ {F : Rule} {order : ℕ → ℕ} {budget : ℕ} {p : List ℕ} (s : Sta
             few = k;
             within = omega arith;
             some = omega (arith, G .some);
+            calm = omega (arith, G .calm);
             same = on (sweep-quiet F order _ s quiet k);
           }
 
@@ -85,6 +87,7 @@ module _ {F : Rule} {order : ℕ → ℕ} {budget : ℕ} {p : List ℕ} (s : Sta
             few = omega (arith, G .inside);
             within = omega arith;
             some = omega (arith, G .some);
+            calm = omega (arith, G .calm);
             same = on (sweep-raise F order _ s above k);
           }
 

@@ -19,12 +19,12 @@ use Rattle.monotone.proofs.Order.{feasible-satisfied, rises-refl, ⊑-t
 use Rattle.monotone.proofs.Compare.{pos-right}
 
 -- a relaxation, with what it found
-data Seen (ceiling required pressure : ℕ) : Relaxation → Type 0 where
+pub data Seen (ceiling required pressure : ℕ) : Relaxation → Type 0 where
   was-quiet : required ≤ pressure → Seen ceiling required pressure quiet
   was-raise : pressure < required → required ≤ ceiling → Seen ceiling required pressure raise
   was-exceed : pressure < required → ceiling < required → Seen ceiling required pressure exceed
 
-see : (ceiling required pressure : ℕ) → Seen ceiling required pressure (relax ceiling required pressure)
+pub see : (ceiling required pressure : ℕ) → Seen ceiling required pressure (relax ceiling required pressure)
 see ceiling required pressure = go (leb required pressure) (leb required ceiling) refl refl
   where
     go : (a b : Bool) → leb required pressure ≡ a → leb required ceiling ≡ b → Seen ceiling required pressure (cond a quiet (cond b raise exceed))

@@ -1,0 +1,34 @@
+-- `sweep::judged` meets its contract.
+use borrow.Author.Needs.{needs}
+use borrow.Author.Tests.{eq-eqb, ne-eqb}
+use Rattle.sweep.proofs.judged.Statement.{statement}
+use Rattle.sweep.proofs.judged.Tie as tie
+
+enum-told : tie.Need-enum-told
+enum-told c = search needs
+
+cast-if1 : tie.Need-cast-if1
+cast-if1 c = search needs
+
+enum-told-2 : tie.Need-enum-told-2
+enum-told-2 c = search needs
+
+enum-told-3 : tie.Need-enum-told-3
+enum-told-3 c = search needs
+
+returns : tie.Need-returns
+returns c = rw (c .before .before .enum-told .given .1, eq-eqb _ _ (c .if1 .taken))
+
+returns-2 : tie.Need-returns-2
+returns-2 c = rw (c .before .before .enum-told .given .1, ne-eqb _ _ (c .if1 .left))
+
+returns-3 : tie.Need-returns-3
+returns-3 c = rw (c .enum-told2 .given .1)
+
+returns-4 : tie.Need-returns-4
+returns-4 c = rw (c .enum-told3 .given .1)
+
+pub judged-spec : {M : Type 1} → statement M
+judged-spec =
+    tie.close
+    (tie.spec enum-told cast-if1 enum-told-2 enum-told-3 returns returns-2 returns-3 returns-4)
