@@ -7,8 +7,7 @@ use native.Mathlib.Omega.{arith}
 use borrow.Author.Tests.{lt-ltb, le-ltb}
 use lib.IntN.{ℤ}
 use lib.ListN.{length, getD, List·getD-eq-default}
-use Rattle.cell.specs.Cell.{Bounded}
-use Rattle.grid.specs.Pull.{backOf, aheadOf, pullBy, cellBy, Loaded, Loads}
+use Rattle.grid.specs.Pull.{backOf, aheadOf, cellBy, Loaded, Loads}
 use Rattle.cell.specs.declared.Cell.{Cell}
 
 module _ (links numbers : List ℕ) (i k : ℕ) where

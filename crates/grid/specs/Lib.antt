@@ -1,2 +1,3 @@
 -- What the contracts cite beside the model.
 pub mod Pull
+pub mod Order

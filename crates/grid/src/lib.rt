@@ -5,11 +5,12 @@
 // i − 1, i + 1, i − C and i + C, as far as there are such cells. proofs/Neighbours shows that this is the sum over the
 // neighbours inside the grid.
 ghost use mathlib.Core.Path.{_≡_};
-ghost use mathlib.Core.List.{List};
-ghost use Prim.Native.Nat.{ℕ, _≤_, _<_, _*_, _^_};
-ghost use lib.ListN.{length, getD, take};
+ghost use Prim.Native.Nat.{_≤_, _<_, _^_};
+ghost use lib.ListN.{length, take};
 ghost use Rattle.grid.specs.Pull.{Links, backOf, aheadOf, Product, pullBy, cellBy, Loaded, Loads};
 use cell::Cell;
+
+pub mod order; // order.rt: the table of an ordering
 
 // The link to the cell that lies `step` before `at`, times that cell's number; 0 if there is none.
 fn pull_back(links: &[u32], numbers: &[u32], at: usize, step: usize) -> u64
@@ -65,5 +66,17 @@ pub fn cell_at(
         diagonal: diagonals[at],
         pull: pull,
         source: sources[at],
+    }
+}
+
+// Copies weights into 32-bit numbers, so that one function loads a cell with weights or with pressures.
+pub fn widen(weights: &[u16], numbers: &mut [u32])
+    requires { ⌜ length (now weights) ≤ length (now numbers) ⌝ }
+    ensures { λ r. ⌜ take (length (now (weights .entry))) (now (numbers .exit)) ≡ now (weights .entry) ⌝ }
+{
+    let mut i = 0;
+    while i < weights.len() {
+        numbers[i] = weights[i] as u32;
+        i += 1;
     }
 }

@@ -106,7 +106,7 @@ module _ (t : ℕ → Bool) where
             | no l ↦ absurd (true≢false (sym e ∙ ap t (le-antisymm (omega arith) (omega arith)) ∙ f))
           ]
 
-picks-length : (t : ℕ → Bool) (n : ℕ) → length (picks t n) + length (picks (λ i. not (t i)) n) ≡ n
+pub picks-length : (t : ℕ → Bool) (n : ℕ) → length (picks t n) + length (picks (λ i. not (t i)) n) ≡ n
 picks-length t zero = refl
 picks-length t (suc n) = go (t n) (picks-length t n)
   where

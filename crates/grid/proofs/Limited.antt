@@ -1,0 +1,76 @@
+-- What a film that has passed its limits (4, 5, 10 and 14) gives to the code that loads its cells.
+use mathlib.Core.Path.{_≡_, sym, _∙_}
+use mathlib.Core.List.{List}
+use Prim.Native.Nat.{ℕ, _*_, _≤_, _<_, _^_}
+use native.Mathlib.Nat.{mul-le-mul}
+use native.Mathlib.Decide.{decLt}
+use native.Mathlib.Omega.{arith}
+use lib.IntN.{ℤ, pos, negsuc, natAbs}
+use lib.ListN.{length, getD, List·getD-eq-default}
+use Rattle.model.specs.Limits.{sideLimit}
+use Rattle.model.specs.Integers.{lift, drop}
+use Rattle.model.specs.Film.{Film, sizeOf, diagonalAt, sourceAt, pullOf}
+use Rattle.model.specs.Accepted.{Sized, Limited}
+use Rattle.cell.specs.declared.Cell.{Cell}
+use Rattle.grid.specs.Pull.{Links, Limits, Loaded, pullBy, cellBy}
+use Rattle.grid.proofs.Neighbours.{Edges, pull-is}
+
+pub size-low : {f : Film} → Sized f → sizeOf f ≤ 1024
+size-low {f} s = let m : f .rows * f .columns ≤ sideLimit * sideLimit = mul-le-mul (s .rows-low) (s .columns-low) in omega arith
+
+-- a source's parts are within its magnitude
+pub lift-low : (s : ℤ) → lift s ≤ natAbs s
+lift-low (pos n) = omega arith
+lift-low (negsuc n) = omega arith
+
+pub drop-low : (s : ℤ) → drop s ≤ natAbs s
+drop-low (pos n) = omega arith
+drop-low (negsuc n) = omega arith
+
+module _ {f : Film} (l : Limited f) where
+  -- links that leave the grid are 0
+  pub limited-edges : Edges f
+  limited-edges = record { some = l .sized .columns-some; right = λ k h. l .cell k h .right-edge; up = λ k h. l .cell k h .up-edge }
+
+  -- a link for each number of a field or of the weights
+  links : (list numbers : List ℕ) → length list ≡ sizeOf f → length numbers ≡ sizeOf f → ((k : ℕ) → k < sizeOf f → getD list k 0 ≤ 2 ^ 26)
+      → Links list numbers
+  links list numbers e n h =
+      record {
+        len = e ∙ sym n;
+        small = λ k. elim (decLt k (length list)) [
+          | yes b ↦ h k (omega arith)
+          | no b ↦ let z : getD list k 0 ≡ 0 = List·getD-eq-default list 0 {n = k} (omega arith) in omega arith
+        ];
+      }
+
+  cell-limits : (i : ℕ) → i < sizeOf f → Limits (diagonalAt f i) (sourceAt f i)
+  cell-limits i h =
+      let c = l .cell i h in
+      record {
+        some = c .diagonal-some;
+        diagonal-low = omega arith;
+        lift-low = omega (arith, lift-low (sourceAt f i), c .source-low);
+        drop-low = omega (arith, drop-low (sourceAt f i), c .source-low);
+      }
+
+  -- what loading a cell asks, with as many numbers as there are cells
+  pub limited-loaded : {numbers : List ℕ} → length numbers ≡ sizeOf f
+      → Loaded (f .columns) (f .diagonals) (f .rights) (f .ups) (f .sources) numbers
+  limited-loaded {numbers} n =
+      let s = l .sized in
+      record {
+        right = links (f .rights) numbers (s .rights-len) n (λ k h. omega (arith, l .cell k h .right-low));
+        up = links (f .ups) numbers (s .ups-len) n (λ k h. omega (arith, l .cell k h .up-low));
+        diagonals-len = s .diagonals-len ∙ sym n;
+        sources-len = s .sources-len ∙ sym n;
+        columns-low = omega (arith, s .columns-low);
+        cell = λ i h. cell-limits i (omega arith);
+      }
+
+  -- the cell that is loaded has document 01's diagonal, pull and source
+  pub cell-is : (numbers : List ℕ) (i : ℕ) → i < sizeOf f
+      → cellBy (f .columns) (f .diagonals) (f .rights) (f .ups) (f .sources) numbers i
+      ≡ record { diagonal = diagonalAt f i; pull = pullOf f numbers i; source = sourceAt f i }
+  unfolding cellBy
+  cell-is numbers i h = rw (pull-is f numbers limited-edges i h)
