@@ -5,6 +5,7 @@ pub mod Reynolds
 pub mod Film
 pub mod Checks
 pub mod Proposal
+pub mod Acceptance
 pub mod Estimate
 pub mod Run
 pub mod History

@@ -118,6 +118,19 @@ module _ (test : ℕ → Bool) where
       let t : (test n ≡ true) × (allBelow test n ≡ true) = both (test n) n e in
       elim (decLt i n) [ yes l ↦ all-at n (t .1) i l | no l ↦ ap test (le-antisymm (omega arith) (omega arith)) ∙ t .0 ]
 
+  pub all-true : (n : ℕ) → ((i : ℕ) → i < n → test i ≡ true) → allBelow test n ≡ true
+  all-true zero h = refl
+  all-true (suc n) h = rw (h n (omega arith)) (all-true n (λ i l. h i (omega arith)))
+
+  -- a number that passes is counted
+  pub count-hit : (n i : ℕ) → i < n → test i ≡ true → 0 < countBelow test n
+  count-hit zero i h e = absurd (omega arith)
+  count-hit (suc n) i h e =
+      elim (decLt i n) [
+        | yes l ↦ omega (arith, count-hit n i l e)
+        | no l ↦ let f : test n ≡ true = ap test (le-antisymm (omega arith) (omega arith)) ∙ e in rw f (omega arith)
+      ]
+
   pub count-more : (n : ℕ) → countBelow test (n + 1) ≡ countBelow test n + cond (test n) 1 0
   count-more n = rw add-one
 
