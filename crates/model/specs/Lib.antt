@@ -16,4 +16,6 @@ pub mod Margin
 pub mod Estimate
 pub mod Run
 pub mod History
+pub mod Bytes
+pub mod File
 pub mod FilmF
