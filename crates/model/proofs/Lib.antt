@@ -9,4 +9,5 @@ pub mod Acceptance
 pub mod Estimate
 pub mod Run
 pub mod History
+pub mod Demand
 pub mod FilmF

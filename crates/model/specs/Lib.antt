@@ -18,4 +18,5 @@ pub mod Run
 pub mod History
 pub mod Bytes
 pub mod File
+pub mod Demand
 pub mod FilmF
