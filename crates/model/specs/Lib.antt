@@ -18,5 +18,6 @@ pub mod Run
 pub mod History
 pub mod Bytes
 pub mod File
+pub mod Report
 pub mod Demand
 pub mod FilmF

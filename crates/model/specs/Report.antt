@@ -1,0 +1,119 @@
+-- Document 01, "The report": the text's bytes, from the file's bytes.
+use mathlib.Core.Bool.{Bool, true, false, cond}
+use mathlib.Core.List.{List, [], _∷_, _++_}
+use Prim.Native.Nat.{ℕ, zero, suc, _+_, _*_, _/_, _%_}
+use lib.Dec.{ltb}
+use lib.IntN.{ℤ, pos, negsuc}
+use lib.ListN.{getD, replicate}
+use Rattle.model.specs.Gauge.{Gauge}
+use Rattle.model.specs.Film.{Film, sizeOf, rowOf, columnOf, slack}
+use Rattle.model.specs.Coefficients.{formed}
+use Rattle.model.specs.Result.{Result}
+use Rattle.model.specs.Run.{RunAnswer, done, stopped, over, refused, run}
+use Rattle.model.specs.File.{Reading, accepted, readFilm}
+use Rattle.model.specs.declared.Counts.{Counts}
+
+-- a number in decimal, with at most as many digits as said
+unfoldable pub digits : ℕ → ℕ → List ℕ
+digits zero n = []
+digits (suc most) n = cond (ltb n 10) ((48 + n) ∷ []) (digits most (n / 10) ++ (48 + n % 10) ∷ [])
+
+-- 20 digits hold every number of 64 bits
+abbrev pub decimal : ℕ → List ℕ
+decimal n = digits 20 n
+
+abbrev pub signed : ℤ → List ℕ
+signed (pos n) = decimal n
+signed (negsuc n) = 45 ∷ decimal (suc n)
+
+-- what stands on a line, one space between; each line ends with a line feed
+abbrev pub _␣_ : List ℕ → List ℕ → List ℕ
+a ␣ b = a ++ (32 ∷ []) ++ b
+
+abbrev pub line : List ℕ → List ℕ
+line words = words ++ 10 ∷ []
+
+infixr 45 _␣_
+
+-- FILM, CEILING, DONE, STOPPED, OVER, PEAK, REFUSED
+abbrev pub filmWord : List ℕ
+filmWord = 70 ∷ 73 ∷ 76 ∷ 77 ∷ []
+
+abbrev pub ceilingWord : List ℕ
+ceilingWord = 67 ∷ 69 ∷ 73 ∷ 76 ∷ 73 ∷ 78 ∷ 71 ∷ []
+
+abbrev pub doneWord : List ℕ
+doneWord = 68 ∷ 79 ∷ 78 ∷ 69 ∷ []
+
+abbrev pub stoppedWord : List ℕ
+stoppedWord = 83 ∷ 84 ∷ 79 ∷ 80 ∷ 80 ∷ 69 ∷ 68 ∷ []
+
+abbrev pub overWord : List ℕ
+overWord = 79 ∷ 86 ∷ 69 ∷ 82 ∷ []
+
+abbrev pub peakWord : List ℕ
+peakWord = 80 ∷ 69 ∷ 65 ∷ 75 ∷ []
+
+abbrev pub refusedWord : List ℕ
+refusedWord = 82 ∷ 69 ∷ 70 ∷ 85 ∷ 83 ∷ 69 ∷ 68 ∷ []
+
+-- r and c of a cell, counted from 1
+abbrev pub placeText : Film → ℕ → List ℕ
+placeText f i = decimal (rowOf f i + 1) ␣ decimal (columnOf f i + 1)
+
+-- the lowest index below n with the greatest pressure
+abbrev pub higher : List ℕ → ℕ → ℕ → ℕ
+higher p best i = cond (ltb (getD p best 0) (getD p i 0)) i best
+
+unfoldable pub peakOf : List ℕ → ℕ → ℕ
+peakOf p zero = 0
+peakOf p (suc n) = higher p (peakOf p n) n
+
+module _ (f : Film) (p : List ℕ) where
+  abbrev pub cellLine : ℕ → List ℕ
+  cellLine i = line (placeText f i ␣ decimal (getD p i 0) ␣ signed (slack f p i))
+
+  -- the first n cells
+  unfoldable pub cellLines : ℕ → List ℕ
+  cellLines zero = []
+  cellLines (suc n) = cellLines n ++ cellLine n
+
+  abbrev pub peakLine : List ℕ
+  peakLine = line (peakWord ␣ placeText f (peakOf p (sizeOf f)) ␣ decimal (getD p (peakOf p (sizeOf f)) 0))
+
+  -- after Done and Stopped
+  abbrev pub fieldText : List ℕ
+  fieldText = cellLines (sizeOf f) ++ peakLine
+
+abbrev pub answerLine : List ℕ → Counts → List ℕ
+answerLine word c = line (word ␣ decimal (c .visits) ␣ decimal (c .raises))
+
+abbrev pub refusedLine : ℕ → ℕ → List ℕ
+refusedLine number place = line (refusedWord ␣ decimal number ␣ decimal place)
+
+abbrev pub answerText : Film → RunAnswer → List ℕ → List ℕ
+answerText f (done c) p = answerLine doneWord c ++ fieldText f p
+answerText f (stopped c) p = answerLine stoppedWord c ++ fieldText f p
+answerText f (over i c) p = answerLine overWord c ++ line (placeText f i)
+answerText f (refused number place) p = refusedLine number place
+
+abbrev pub headLine : Film → List ℕ
+headLine f = line (filmWord ␣ decimal (f .rows) ␣ decimal (f .columns) ␣ ceilingWord ␣ decimal (f .ceiling))
+
+-- one run from zero, order 0, proposals off, budget 4,000,000
+abbrev pub reportBudget : ℕ
+reportBudget = 4000000
+
+abbrev pub reportRun : Film → Result RunAnswer
+reportRun f = run f reportBudget 0 false (replicate (sizeOf f) 0)
+
+abbrev pub filmReport : Film → List ℕ
+filmReport f = headLine f ++ answerText f (reportRun f .answer) (reportRun f .lent)
+
+abbrev pub reportBy : Reading → List ℕ
+reportBy (accepted g) = filmReport (formed g)
+reportBy (Reading.refused number place) = refusedLine number place
+
+-- the report of a file
+abbrev pub reportOf : List ℕ → List ℕ
+reportOf bytes = reportBy (readFilm bytes)
