@@ -34,7 +34,6 @@ abbrev pub line : List ℕ → List ℕ
 line words = words ++ 10 ∷ []
 
 infixr 45 _␣_
-
 -- FILM, CEILING, DONE, STOPPED, OVER, PEAK, REFUSED
 abbrev pub filmWord : List ℕ
 filmWord = 70 ∷ 73 ∷ 76 ∷ 77 ∷ []
