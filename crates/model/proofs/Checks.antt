@@ -52,7 +52,7 @@ pub record Passed (f : Film) (fits : Bool) (order start place : Check) : Type 0 
   pub place-is : place ≡ pass
 
 -- a number from low to high
-within : (x low high : ℕ) → outside x low high ≡ false → (low ≤ x) × (x ≤ high)
+pub within : (x low high : ℕ) → outside x low high ≡ false → (low ≤ x) × (x ≤ high)
 within x low high e = let t = or-parts (ltb x low) (ltb high x) e in (ltb-false _ _ (t .0), ltb-false _ _ (t .1))
 
 -- a link that must be 0 at the grid's edge

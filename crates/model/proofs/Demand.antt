@@ -17,10 +17,14 @@ use Rattle.model.specs.Checks.{filmCheck}
 use Rattle.model.specs.Accepted.{Accepted}
 use Rattle.model.specs.Run.{RunAnswer, done, stopped, over, refused, runAnswerOf}
 use Rattle.model.specs.History.{Call, runVerdict}
+use Rattle.model.specs.Gauge.{Gauge}
+use Rattle.model.specs.Coefficients.{formed}
+use Rattle.model.specs.File.{accepted, readFilm, Bytes}
 use Rattle.model.specs.Demand.{Step, ran, proposed, exitOf, Kept, Each, zeroField, History, callOf, Answer, answerOf, Outcome, ruled, ruledAll, callsOf, outcomesOf, IfDone, IfOver, WhenDone, WhenOver, stoppedBy, stoppedIn, stoppedCount, Holds, Claimed}
 use Rattle.model.proofs.Film.{feasible-to, feasible-from, least-exists, least-feasible}
 use Rattle.model.proofs.Checks.{check-passes, accepted-positive}
 use Rattle.model.proofs.History.{calls-good}
+use Rattle.model.proofs.Formed.{file-film}
 
 -- P of each step gives Q of each
 each-map : {P Q : List ℕ → Step → Type 0} → ((entry : List ℕ) (s : Step) → P entry s → Q entry s) → (entry : List ℕ) (ss : List Step)
@@ -170,3 +174,10 @@ module _ (f : Film) (A : Accepted f) where
 -- every list of calls on a film that passes its tests, from the zero field
 pub film-claimed : (f : Film) → filmCheck f ≡ pass → Claimed f
 film-claimed f e = accepted-claimed f ((check-passes f true pass pass pass e) .film)
+
+-- Demand 3. A bench maker may claim: whatever runs and line proposals are made on an accepted film file, in whatever order and number, refused
+-- ones among them, what they answer and leave is what document 01's rules give; the pressure field only rises and never passes a feasible field;
+-- Done is the least feasible field, always the same; Over means that no field is feasible; and runs whose budget covers every cell are answered
+-- Stopped at most as often as the least field's total says.
+pub demand-3 : (bytes : List ℕ) (g : Gauge) → Bytes bytes → readFilm bytes ≡ accepted g → Claimed (formed g)
+demand-3 bytes g b e = film-claimed (formed g) (file-film bytes g b e)

@@ -1,12 +1,18 @@
--- Film F's starred edges, each by computing.
+-- Film F's starred edges, each by computing; and by computing too, its report and the line with proposals on.
 use mathlib.Core.Path.{refl}
 use Rattle.monotone.specs.Sweep.{sweep}
 use Rattle.model.specs.Lists.{firstOf}
 use Rattle.model.specs.Film.{beside, across, neighbours}
 use Rattle.model.specs.Checks.{filmFits, badCoefficient, zeroWeight, notDominant, sizeCheck, coefficientCheck, weightCheck, dominanceCheck}
 use Rattle.model.specs.Margin.{margin}
-use Rattle.model.specs.Run.{orderOf, readied, run}
-use Rattle.model.specs.FilmF.{Edges}
+use Rattle.model.specs.Proposal.{raisedBy, riseCount, withinCeiling, tight, propose}
+use Rattle.model.specs.Estimate.{eliminate, substitute, floorOf, wholePart, eliminated, solved, estimate}
+use Rattle.model.specs.Run.{orderOf, readied, run, proposeOwn, proposeLines}
+use Rattle.model.specs.File.{fileCheck, fieldAt, gaugeDominance}
+use Rattle.model.specs.Report.{digits, peakOf, cellLines}
+use lib.Ieee.{add, sub, mul, div, lt, le, ofInt, eq, sum, neg, round, size, span, climb, units, odd}
+use lib.Count.{trailingZeros}
+use Rattle.model.specs.FilmF.{Edges, bytesF, reportF, Computed}
 
 pub film-f : Edges
 unfolding sweep firstOf beside across neighbours filmFits badCoefficient zeroWeight notDominant sizeCheck coefficientCheck weightCheck dominanceCheck margin orderOf readied run
@@ -29,3 +35,7 @@ film-f =
       wedge-minus-slacks = refl;
       start-3-0 = refl;
     }
+
+pub film-f-computed : Computed
+unfolding bytesF reportF sweep firstOf beside across neighbours filmFits badCoefficient zeroWeight notDominant sizeCheck coefficientCheck weightCheck dominanceCheck margin orderOf readied run fileCheck fieldAt gaugeDominance digits peakOf cellLines eliminate substitute floorOf wholePart eliminated solved estimate add sub mul div lt le ofInt eq sum neg round size span climb units odd trailingZeros proposeOwn proposeLines raisedBy riseCount withinCeiling tight propose
+film-f-computed = record { report = refl; offered = refl; proposals-on = refl }

@@ -10,4 +10,6 @@ pub mod Estimate
 pub mod Run
 pub mod History
 pub mod Demand
+pub mod File
+pub mod Formed
 pub mod FilmF

@@ -1,7 +1,8 @@
 -- Document 01, "The film file": its fields, what the reader refuses and in what order, and the file of a film.
+use mathlib.Core.Path.{_≡_}
 use mathlib.Core.Bool.{Bool, not}
 use mathlib.Core.List.{List, [], _∷_, _++_}
-use Prim.Native.Nat.{ℕ, _+_, _*_}
+use Prim.Native.Nat.{ℕ, _+_, _*_, _<_}
 use lib.Dec.{ltb, eqb}
 use lib.IntN.{ℤ, natAbs}
 use lib.ListN.{length, getD}
@@ -133,3 +134,15 @@ gaugeCheck g fits =
     orElse thicknessesCheck (g .thicknesses) (cells (g .rows) (g .columns)) (ringed (g .rows) (g .columns))
     orElse wedgeCheck (g .wedge) (wedgeOffset (cells (g .rows) (g .columns)) (ringed (g .rows) (g .columns)))
     orElse gaugeDominance g
+
+-- What types and lengths say: that a file consists of bytes; and of a film's numbers as the writer takes them, that the ceiling has
+-- 32 bits, a weight 16 and a thickness 8, with a weight for each cell and a thickness for each place of the grid and its ring.
+pub record Bytes (l : List ℕ) : Type 0 where
+  pub byte : (i : ℕ) → getD l i 0 < 256
+
+pub record Values (g : Gauge) : Type 0 where
+  pub weights-len : length (g .weights) ≡ cells (g .rows) (g .columns)
+  pub thicknesses-len : length (g .thicknesses) ≡ ringed (g .rows) (g .columns)
+  pub ceiling-long : g .ceiling < 4294967296
+  pub weight-word : (i : ℕ) → getD (g .weights) i 0 < 65536
+  pub thickness-byte : (j : ℕ) → getD (g .thicknesses) j 0 < 256

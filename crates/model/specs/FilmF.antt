@@ -1,15 +1,19 @@
 -- Document 01, "Film F at its edges": the film, and its starred lines as one statement.
 use mathlib.Core.Path.{_≡_}
-use mathlib.Core.Bool.{false}
-use mathlib.Core.List.{List, [], _∷_}
+use mathlib.Core.Bool.{true, false}
+use mathlib.Core.List.{List, [], _∷_, _++_}
 use Prim.Native.Nat.{ℕ}
 use lib.IntN.{ℤ, pos, negsuc}
+use lib.ListN.{take, set}
 use Rattle.model.specs.Gauge.{Gauge}
 use Rattle.model.specs.Film.{Film, slack}
 use Rattle.model.specs.Coefficients.{formed}
 use Rattle.model.specs.Result.{Result}
 use Rattle.model.specs.Margin.{margin}
+use Rattle.model.specs.Estimate.{estimate}
+use Rattle.model.specs.Report.{reportOf}
 use Rattle.model.specs.Run.{RunAnswer, done, stopped, over, runCall}
+use Rattle.model.specs.File.{columnsOffset, accepted, refused, readFilm, fileOf}
 use Rattle.model.specs.declared.Counts.{Counts}
 
 -- 1 row, 2 columns, weights 1 1, boundary rows all 1, middle row 3 2 1 1
@@ -26,6 +30,15 @@ gaugeF ceiling wedge =
 
 abbrev pub filmF : Film
 filmF = formed (gaugeF 100 (pos 100))
+
+-- its file, a line for each field
+unfoldable pub bytesF : List ℕ
+bytesF =
+    (0x01 ∷ 0x00 ∷ 0x02 ∷ 0x01 ∷ 0x02 ∷ [])
+    ++ (0x02 ∷ 0x00 ∷ 0x04 ∷ 0x00 ∷ 0x00 ∷ 0x00 ∷ 0x64 ∷ [])
+    ++ (0x03 ∷ 0x00 ∷ 0x04 ∷ 0x00 ∷ 0x01 ∷ 0x00 ∷ 0x01 ∷ [])
+    ++ (0x04 ∷ 0x00 ∷ 0x0c ∷ 0x01 ∷ 0x01 ∷ 0x01 ∷ 0x01 ∷ 0x03 ∷ 0x02 ∷ 0x01 ∷ 0x01 ∷ 0x01 ∷ 0x01 ∷ 0x01 ∷ 0x01 ∷ [])
+    ++ (0x05 ∷ 0x00 ∷ 0x04 ∷ 0x00 ∷ 0x00 ∷ 0x00 ∷ 0x64 ∷ [])
 
 abbrev pub zero-field : List ℕ
 zero-field = 0 ∷ 0 ∷ []
@@ -64,3 +77,37 @@ pub record Edges : Type 0 where
   pub wedge-minus : runOn (formed (gaugeF 100 (negsuc 99))) ample 0 zero-field ≡ ends done 2 0 0 0
   pub wedge-minus-slacks : slacks (formed (gaugeF 100 (negsuc 99))) zero-field ≡ pos 200 ∷ pos 100 ∷ []
   pub start-3-0 : runOn filmF ample 0 (3 ∷ 0 ∷ []) ≡ ends done 4 1 3 4
+
+-- the film's file is accepted and is what the writer makes, and the lines about files that differ from it
+pub record FileEdges : Type 0 where
+  pub reads : readFilm bytesF ≡ accepted (gaugeF 100 (pos 100))
+  pub writes : fileOf (gaugeF 100 (pos 100)) ≡ bytesF
+  pub empty : readFilm [] ≡ refused 1 0
+  pub without-last : readFilm (take 40 bytesF) ≡ refused 1 40
+  pub with-another : readFilm (bytesF ++ (0 ∷ [])) ≡ refused 2 41
+  pub columns-33 : readFilm (set bytesF columnsOffset 33) ≡ refused 4 4
+
+-- document 01's report of film F, a line each:
+--   FILM 1 2 CEILING 100
+--   DONE 6 4
+--   1 1 2 104
+--   1 2 4 50
+--   PEAK 1 2 4
+unfoldable pub reportF : List ℕ
+reportF =
+    (70 ∷ 73 ∷ 76 ∷ 77 ∷ 32 ∷ 49 ∷ 32 ∷ 50 ∷ 32 ∷ 67 ∷ 69 ∷ 73 ∷ 76 ∷ 73 ∷ 78 ∷ 71 ∷ 32 ∷ 49 ∷ 48 ∷ 48 ∷ 10 ∷ [])
+    ++ (68 ∷ 79 ∷ 78 ∷ 69 ∷ 32 ∷ 54 ∷ 32 ∷ 52 ∷ 10 ∷ [])
+    ++ (49 ∷ 32 ∷ 49 ∷ 32 ∷ 50 ∷ 32 ∷ 49 ∷ 48 ∷ 52 ∷ 10 ∷ [])
+    ++ (49 ∷ 32 ∷ 50 ∷ 32 ∷ 52 ∷ 32 ∷ 53 ∷ 48 ∷ 10 ∷ [])
+    ++ (80 ∷ 69 ∷ 65 ∷ 75 ∷ 32 ∷ 49 ∷ 32 ∷ 50 ∷ 32 ∷ 52 ∷ 10 ∷ [])
+
+-- the unstarred line with proposals on: wedge 100,000, ceiling 5,000; the row offers 1317 2657
+abbrev pub steep : Film
+steep = formed (gaugeF 5000 (pos 100000))
+
+-- the text of the report, and the estimate and the run of the unstarred line
+pub record Computed : Type 0 where
+  pub report : reportOf bytesF ≡ reportF
+  pub offered : estimate steep zero-field 0 ≡ 1317 ∷ 2657 ∷ []
+  pub proposals-on : runCall steep ample 0 true zero-field
+      ≡ record { answer = done (record { visits = 4; raises = 2; accepted = 2 }); lent = 1320 ∷ 2660 ∷ [] }

@@ -1,0 +1,215 @@
+-- Coefficients formed from a film's numbers that pass their tests pass the tests of the calls that take coefficients.
+use mathlib.Core.Path.{_≡_, refl, sym, _∙_, subst}
+use mathlib.Core.Bool.{Bool, true, false, cond, _&&_, true≢false}
+use mathlib.Core.List.{List}
+use Prim.Native.Nat.{ℕ, zero, suc, _+_, _-_, _*_, _/_, _%_, _≤_, _<_}
+use native.Mathlib.Nat.{le-trans, mul-le-mul, div-lt-iff-lt-mul, mod-lt}
+use native.Mathlib.Omega.{arith}
+use borrow.Author.Tests.{eqb-false, le-ltb, le-leb, lt-leb, eq-eqb, ne-eqb}
+use lib.Arith.{digits-lt}
+use lib.Dec.{leb, ltb, eqb}
+use lib.IntN.{ℤ, pos, negsuc, negℤ, _-ℤ_, _*ℤ_, natAbs}
+use lib.ListN.{getD}
+use Rattle.model.specs.Limits.{sideLimit, ceilingLimit, thicknessLimit, wedgeLimit, diagonalLimit, linkLimit, sourceLimit}
+use Rattle.model.specs.Lists.{tabulate, firstOf}
+use Rattle.model.specs.Refusals.{pass, failFirst}
+use Rattle.model.specs.Gauge.{Gauge, thicknessAt}
+use Rattle.model.specs.Film.{Film, sizeOf, weightAt}
+use Rattle.model.specs.Coefficients.{linkOf, formedDiagonal, formedRight, formedUp, formedSource, byCell, formed}
+use Rattle.model.specs.Checks.{outside, filmFits, badCoefficient, zeroWeight, notDominant, sizeCheck, coefficientCheck, weightCheck, dominanceCheck, filmCheck}
+use Rattle.model.specs.Accepted.{Sized, LimitedCell, Accepted}
+use Rattle.model.specs.File.{cells, ringed, ceilingOffset, weightOffset, thicknessOffset, gaugeDominance, readFilm, accepted, gaugeCheck, Bytes, Values}
+use Rattle.model.proofs.Integers.{sub-pos, sub-lt, sub-le, by-order}
+use Rattle.model.proofs.Lists.{tabulate-length, tabulate-at, first-hit}
+use Rattle.model.proofs.Checks.{within, failIf-pass, failFirst-pass}
+use Rattle.model.proofs.File.{pass-both, GaugePassed, gauge-passes, gauge-shape, wedge-low, read-values}
+
+-- ---- an accepted film passes its tests: the converse of what passed tests say
+
+outside-false : (x low high : ℕ) → low ≤ x → x ≤ high → outside x low high ≡ false
+outside-false x low high h k = rw (le-ltb x low h, le-ltb high x k)
+
+-- a search that finds no fault
+pass-first : (bad : ℕ → Bool) (n number : ℕ) (place : ℕ → ℕ) → ((i : ℕ) → i < n → bad i ≡ false) → failFirst bad n number place ≡ pass
+pass-first bad n number place h =
+    by-order (firstOf bad n) n
+    (λ l. absurd (true≢false (sym (first-hit bad n l) ∙ h (firstOf bad n) l)))
+    (λ l. rw (le-ltb (firstOf bad n) n l))
+
+-- a link that is 0 at the grid's edge
+edge-false : (a b link : ℕ) → (a ≤ b → link ≡ 0) → (leb a b && ltb 0 link) ≡ false
+edge-false a b link h =
+    by-order b a (λ l. rw (lt-leb a b l)) (λ l. rw (le-leb a b l) (le-ltb 0 link (omega (arith, h l))))
+
+-- 4, 5 and 10
+size-fine : (f : Film) → Sized f → sizeCheck f true ≡ pass
+unfolding sizeCheck filmFits
+size-fine f s =
+    rw (
+      outside-false (f .rows) 1 sideLimit (s .rows-some) (s .rows-low),
+      outside-false (f .columns) 1 sideLimit (s .columns-some) (s .columns-low),
+      outside-false (f .ceiling) 1 ceilingLimit (s .ceiling-some) (s .ceiling-low),
+      eq-eqb _ _ (s .weights-len),
+      eq-eqb _ _ (s .diagonals-len),
+      eq-eqb _ _ (s .rights-len),
+      eq-eqb _ _ (s .ups-len),
+      eq-eqb _ _ (s .sources-len),
+    )
+
+-- 14, at one cell
+cell-fine : (f : Film) (i : ℕ) → LimitedCell f i → badCoefficient f i ≡ false
+unfolding badCoefficient
+cell-fine f i c =
+    rw (
+      outside-false _ 1 diagonalLimit (c .diagonal-some) (c .diagonal-low),
+      le-ltb _ _ (c .right-low),
+      le-ltb _ _ (c .up-low),
+      edge-false _ _ _ (c .right-edge),
+      edge-false _ _ _ (c .up-edge),
+      le-ltb _ _ (c .source-low),
+    )
+
+-- all of a film's own tests
+pub accepted-passes : (f : Film) → Accepted f → filmCheck f ≡ pass
+unfolding coefficientCheck weightCheck dominanceCheck zeroWeight notDominant
+accepted-passes f A =
+    pass-both (size-fine f (A .limited .sized))
+    (pass-both (pass-first _ (sizeOf f) 14 (λ i. i) (λ i h. cell-fine f i (A .limited .cell i h)))
+    (pass-both (pass-first _ (sizeOf f) 6 (λ i. i) (λ i h. ne-eqb (weightAt f i) 0 (λ e. omega (arith, A .weight i h))))
+    (pass-both (pass-first _ (sizeOf f) 9 (λ i. i) (A .dominant)) refl)))
+
+-- ---- limits of the formed coefficients, over plain numbers
+
+-- a link of thicknesses within their limits, the cube of their sum
+record Link (k : ℕ) : Type 0 where
+  some : 1 ≤ k
+  low : k ≤ linkLimit
+
+link-limits : (a b : ℕ) → (1 ≤ a) × (a ≤ thicknessLimit) → (1 ≤ b) × (b ≤ thicknessLimit) → Link (linkOf a b)
+link-limits a b h k =
+    let some : 1 ≤ a + b = omega arith in
+    let low : a + b ≤ thicknessLimit + thicknessLimit = omega arith in
+    record { some = mul-le-mul (mul-le-mul some some) some; low = le-trans (mul-le-mul (mul-le-mul low low) low) (omega arith) }
+
+-- a diagonal, the sum of four; and a link that is counted or not
+diagonal-limits : {l r d u : ℕ} → Link l → Link r → Link d → Link u → (1 ≤ l + r + d + u) × (l + r + d + u ≤ diagonalLimit)
+diagonal-limits l r d u = omega arith
+
+link-if : {k : ℕ} (counted : Bool) → Link k → cond counted k 0 ≤ linkLimit
+link-if true k = k .low
+link-if false k = omega arith
+
+-- a source: |x × y| is |x| × |y|, and the difference of two numbers up to k is at most k
+abs-neg : (n : ℕ) → natAbs (negℤ (pos n)) ≡ n
+abs-neg zero = refl
+abs-neg (suc n) = refl
+
+abs-mul : (x y : ℤ) → natAbs (x *ℤ y) ≡ natAbs x * natAbs y
+abs-mul (pos a) (pos b) = refl
+abs-mul (pos a) (negsuc b) = abs-neg (a * suc b)
+abs-mul (negsuc a) (pos b) = abs-neg (suc a * b)
+abs-mul (negsuc a) (negsuc b) = refl
+
+abs-sub : (a b k : ℕ) → a ≤ k → b ≤ k → natAbs (pos a -ℤ pos b) ≤ k
+abs-sub a b k h l =
+    by-order a b
+    (λ o. rw (sub-pos a b, sub-lt a b o) (omega arith))
+    (λ o. rw (sub-pos a b, sub-le a b o) (omega arith))
+
+source-limit : (w : ℤ) (a b : ℕ) → natAbs w ≤ wedgeLimit → a ≤ thicknessLimit → b ≤ thicknessLimit
+    → natAbs (w *ℤ (pos a -ℤ pos b)) ≤ sourceLimit
+source-limit w a b h k l = rw (abs-mul w (pos a -ℤ pos b)) (le-trans (mul-le-mul h (abs-sub a b thicknessLimit k l)) (omega arith))
+
+-- ---- a film's numbers that have passed their tests
+
+module _ (g : Gauge) (p : GaugePassed g) where
+  -- the thicknesses, those of the boundary ring too
+  thickness-limits : (r c : ℕ) → (r < g .rows + 2) × (c < g .columns + 2) → (1 ≤ thicknessAt g r c) × (thicknessAt g r c ≤ thicknessLimit)
+  thickness-limits r c h =
+      within (thicknessAt g r c) 1 thicknessLimit
+      (failFirst-pass (λ j. outside (getD (g .thicknesses) j 0) 1 thicknessLimit) (ringed (g .rows) (g .columns)) 7
+      (thicknessOffset (cells (g .rows) (g .columns))) (p .thicknesses) (r * (g .columns + 2) + c) (digits-lt (h .0) (h .1)))
+
+  -- the cell in row r and column c, counted from 1: its link to (s, d), of the grid or the ring, and what is formed from its links
+  module _ (r c : ℕ) (w : (r ≤ g .rows) × (c ≤ g .columns)) where
+    link-to : (s d : ℕ) → (s < g .rows + 2) × (d < g .columns + 2) → Link (linkOf (thicknessAt g r c) (thicknessAt g s d))
+    link-to s d h = link-limits _ _ (thickness-limits r c (omega arith)) (thickness-limits s d h)
+
+    diagonal-formed : (1 ≤ formedDiagonal g r c) × (formedDiagonal g r c ≤ diagonalLimit)
+    diagonal-formed =
+        diagonal-limits (link-to r (c - 1) (omega arith)) (link-to r (c + 1) (omega arith)) (link-to (r - 1) c (omega arith))
+        (link-to (r + 1) c (omega arith))
+
+    right-formed : formedRight g r c ≤ linkLimit
+    right-formed = link-if (ltb c (g .columns)) (link-to r (c + 1) (omega arith))
+
+    up-formed : formedUp g r c ≤ linkLimit
+    up-formed = link-if (ltb r (g .rows)) (link-to (r + 1) c (omega arith))
+
+    source-formed : natAbs (formedSource g r c) ≤ sourceLimit
+    source-formed =
+        source-limit (g .wedge) _ _ (wedge-low p) (thickness-limits r (c + 1) (omega arith) .1)
+        (thickness-limits r (c - 1) (omega arith) .1)
+
+  -- the cell with index i
+  cell-formed : (i : ℕ) → i < g .rows * g .columns → LimitedCell (formed g) i
+  cell-formed i h =
+      let some = gauge-shape g p .columns-some in
+      let row : i / g .columns < g .rows = div-lt-iff-lt-mul some .1 h in
+      let column : i % g .columns < g .columns = mod-lt i some in
+      let r = i / g .columns + 1 in
+      let c = i % g .columns + 1 in
+      let w : (r ≤ g .rows) × (c ≤ g .columns) = omega arith in
+      record {
+        diagonal-some = at (formedDiagonal g) 0 (λ d. 1 ≤ d) (diagonal-formed r c w .0);
+        diagonal-low = at (formedDiagonal g) 0 (λ d. d ≤ diagonalLimit) (diagonal-formed r c w .1);
+        right-low = at (formedRight g) 0 (λ k. k ≤ linkLimit) (right-formed r c w);
+        up-low = at (formedUp g) 0 (λ k. k ≤ linkLimit) (up-formed r c w);
+        right-edge = λ e. at (formedRight g) 0 (λ k. k ≡ 0) (rw (le-ltb c (g .columns) e));
+        up-edge = λ e. at (formedUp g) 0 (λ k. k ≡ 0) (rw (le-ltb r (g .rows) e));
+        source-low = at (formedSource g) (pos 0) (λ z. natAbs z ≤ sourceLimit) (source-formed r c w);
+      }
+    where
+      -- what holds of a cell's number holds of its place in the list of all
+      at : {A : Type 0} (number : ℕ → ℕ → A) (d : A) (P : A → Type 0) → P (byCell g number i)
+          → P (getD (tabulate (g .rows * g .columns) (byCell g number)) i d)
+      at number d P = subst P (sym (tabulate-at (g .rows * g .columns) (byCell g number) d i h))
+
+  sized-formed : Values g → Sized (formed g)
+  sized-formed v =
+      let s = gauge-shape g p in
+      let top = within (g .ceiling) 1 ceilingLimit (failIf-pass _ 5 ceilingOffset (p .ceiling)) in
+      record {
+        rows-some = s .rows-some;
+        rows-low = s .rows-low;
+        columns-some = s .columns-some;
+        columns-low = s .columns-low;
+        ceiling-some = top .0;
+        ceiling-low = top .1;
+        weights-len = v .weights-len;
+        diagonals-len = tabulate-length _ _;
+        rights-len = tabulate-length _ _;
+        ups-len = tabulate-length _ _;
+        sources-len = tabulate-length _ _;
+      }
+
+-- Coefficients formed from a film's numbers that pass their tests are accepted, ..
+pub formed-accepted : (g : Gauge) → Values g → gaugeCheck g true ≡ pass → Accepted (formed g)
+unfolding gaugeDominance notDominant
+formed-accepted g v e =
+    let p = gauge-passes g e in
+    let n = cells (g .rows) (g .columns) in
+    let none = failFirst-pass (λ i. eqb (getD (g .weights) i 0) 0) n 6 weightOffset (p .weights) in
+    record {
+      limited = record { sized = sized-formed g p v; cell = cell-formed g p };
+      weight = λ i h. omega (arith, eqb-false (getD (g .weights) i 0) 0 (none i h));
+      dominant = failFirst-pass (notDominant (formed g)) n 9 (λ i. i) (p .dominant);
+    }
+
+-- .. and so pass the tests of the calls that take coefficients; ..
+pub formed-passes : (g : Gauge) → Values g → gaugeCheck g true ≡ pass → filmCheck (formed g) ≡ pass
+formed-passes g v e = accepted-passes (formed g) (formed-accepted g v e)
+
+-- .. those of an accepted file do.
+pub file-film : (bytes : List ℕ) (g : Gauge) → Bytes bytes → readFilm bytes ≡ accepted g → filmCheck (formed g) ≡ pass
+file-film bytes g B e = let r = read-values bytes g B e in formed-passes g (r .0) (r .1)
