@@ -44,7 +44,7 @@ module _ {f : Film} (l : Limited f) where
         ];
       }
 
-  cell-limits : (i : ℕ) → i < sizeOf f → Limits (diagonalAt f i) (sourceAt f i)
+  pub cell-limits : (i : ℕ) → i < sizeOf f → Limits (diagonalAt f i) (sourceAt f i)
   cell-limits i h =
       let c = l .cell i h in
       record {
@@ -68,9 +68,13 @@ module _ {f : Film} (l : Limited f) where
         cell = λ i h. cell-limits i (omega arith);
       }
 
+  -- the pull by index, as the code works it out, is document 01's
+  pub limited-pull : (numbers : List ℕ) (i : ℕ) → i < sizeOf f → pullBy (f .columns) (f .rights) (f .ups) numbers i ≡ pullOf f numbers i
+  limited-pull numbers i h = pull-is f numbers limited-edges i h
+
   -- the cell that is loaded has document 01's diagonal, pull and source
   pub cell-is : (numbers : List ℕ) (i : ℕ) → i < sizeOf f
       → cellBy (f .columns) (f .diagonals) (f .rights) (f .ups) (f .sources) numbers i
       ≡ record { diagonal = diagonalAt f i; pull = pullOf f numbers i; source = sourceAt f i }
   unfolding cellBy
-  cell-is numbers i h = rw (pull-is f numbers limited-edges i h)
+  cell-is numbers i h = rw (limited-pull numbers i h)

@@ -1,5 +1,5 @@
 -- A relaxation by cases, and that a cell's target serves for what it requires.
-use mathlib.Core.Path.{_≡_, sym, _∙_}
+use mathlib.Core.Path.{_≡_, sym, ap, _∙_}
 use mathlib.Core.List.{List}
 use Prim.Native.Nat.{ℕ, _≤_, _<_, max}
 use native.Mathlib.Decide.{decLe}
@@ -8,6 +8,7 @@ use borrow.Author.Tests.{le-leb, lt-leb}
 use lib.IntN.{ℤ}
 use lib.ListN.{getD}
 use Rattle.monotone.specs.Sweep.{Relaxation, quiet, raise, exceed, relax}
+use Rattle.monotone.proofs.Sweep.{Seen, was-raise, see}
 use Rattle.model.specs.Relaxation.{requiredFor}
 use Rattle.grid.specs.Pull.{cellBy}
 use Rattle.cell.specs.declared.Cell.{Cell}
@@ -26,6 +27,21 @@ module _ (ceiling required pressure : ℕ) where
 
   pub is-exceed : pressure < required → ceiling < required → relax ceiling required pressure ≡ exceed
   is-exceed h l = rw (lt-leb _ _ h, lt-leb _ _ l)
+
+-- the larger of pressure and required pressure leads to the same relaxation
+pub relax-target : (ceiling required pressure : ℕ) → relax ceiling (max pressure required) pressure ≡ relax ceiling required pressure
+relax-target ceiling required pressure =
+    elim (decLe required pressure) [
+      | yes h ↦ is-quiet ceiling (max pressure required) pressure (omega arith) ∙ sym (is-quiet ceiling required pressure h)
+      | no h ↦ ap (λ (r : ℕ). relax ceiling r pressure) (omega arith)
+    ]
+
+-- what a raise says
+pub raise-above : (ceiling required pressure : ℕ) → relax ceiling required pressure ≡ raise → (pressure < required) × (required ≤ ceiling)
+raise-above ceiling required pressure e = go (rw e at (see ceiling required pressure))
+  where
+    go : Seen ceiling required pressure raise → (pressure < required) × (required ≤ ceiling)
+    go (was-raise h l) = (h, l)
 
 -- a visit by what it found
 pub visited : {entry exit : List ℕ} {i target ceiling : ℕ} {v : Visit} (k : Relaxation) → relax ceiling target (getD entry i 0) ≡ k → kindOf v ≡ k

@@ -1,0 +1,94 @@
+-- `checks::coefficients::bad_coefficient` meets its contract.
+use native.Mathlib.Nat.{mod-le, div-le-self}
+use native.Mathlib.Omega.{arith}
+use borrow.Author.Needs.{needs, sfits-of}
+use mir.Facts.{toZ-ofZ}
+use Rattle.model.specs.Checks.{badCoefficient}
+use Rattle.grid.proofs.Limited.{size-low}
+use Rattle.checks.proofs.coefficients.bad_coefficient.Statement.{statement}
+use Rattle.checks.proofs.coefficients.bad_coefficient.Tie as tie
+
+cast-rows : tie.Need-cast-rows
+cast-rows c = search needs
+
+cast-columns : tie.Need-cast-columns
+cast-columns c = search needs
+
+mul-right : tie.Need-mul-right
+mul-right c = search needs
+
+shared-slice-read-right : tie.Need-shared-slice-read-right
+shared-slice-read-right c = search needs
+
+mul-up : tie.Need-mul-up
+mul-up c = search needs
+
+shared-slice-read-up : tie.Need-shared-slice-read-up
+shared-slice-read-up c = search needs
+
+mul-outside : tie.Need-mul-outside
+mul-outside c = search needs
+
+shared-slice-read-outside : tie.Need-shared-slice-read-outside
+shared-slice-read-outside c = search needs
+
+outside-requires : tie.Need-outside-requires
+outside-requires c κs = search needs
+
+rem-leaves-grid : tie.Need-rem-leaves-grid
+rem-leaves-grid c = search needs
+
+leaves-grid-requires : tie.Need-leaves-grid-requires
+leaves-grid-requires c κs =
+    let s = c .before .before .before .before .before .before .before .before .before in
+    omega (arith, size-low (s .pre .0), mod-le (s .args .at) (s .args .head .columns))
+
+div-leaves-grid : tie.Need-div-leaves-grid
+div-leaves-grid c = search needs
+
+leaves-grid-requires-2 : tie.Need-leaves-grid-requires-2
+leaves-grid-requires-2 c κs =
+    let s = c .before .before .before .before .before .before .before .before .before .before in
+    omega (arith, size-low (s .pre .0), div-le-self (s .args .at) (s .args .head .columns))
+
+mul-far-source : tie.Need-mul-far-source
+mul-far-source c = search needs
+
+shared-slice-copy-out-far-source : tie.Need-shared-slice-copy-out-far-source
+shared-slice-copy-out-far-source c = search needs
+
+far-source-requires : tie.Need-far-source-requires
+far-source-requires c κs = search needs
+
+returns : tie.Need-returns
+unfolding badCoefficient
+returns c =
+    rw (
+      c .before .before .before .before .outside .ensures,
+      c .before .before .before .leaves-grid .ensures,
+      c .before .before .leaves-grid2 .ensures,
+      c .far-source .ensures,
+      toZ-ofZ (sfits-of (c .before .far-source-arg .given)),
+    )
+
+pub bad-coefficient-spec : {M : Type 1} → statement M
+bad-coefficient-spec =
+    tie.close
+    (tie.spec
+    cast-rows
+    cast-columns
+    mul-right
+    shared-slice-read-right
+    mul-up
+    shared-slice-read-up
+    mul-outside
+    shared-slice-read-outside
+    outside-requires
+    rem-leaves-grid
+    leaves-grid-requires
+    div-leaves-grid
+    leaves-grid-requires-2
+    mul-far-source
+    shared-slice-copy-out-far-source
+    far-source-requires
+    returns)

@@ -1,0 +1,16 @@
+-- `checks::range_test` meets its contract.
+use borrow.Author.Needs.{needs}
+use Rattle.checks.proofs.range_test.Statement.{statement}
+use Rattle.checks.proofs.range_test.Tie as tie
+
+outside-requires : tie.Need-outside-requires
+outside-requires c κs = search needs
+
+fail-if-requires : tie.Need-fail-if-requires
+fail-if-requires c κs = search needs
+
+returns : tie.Need-returns
+returns c = cc
+
+pub range-test-spec : {M : Type 1} → statement M
+range-test-spec = tie.close (tie.spec outside-requires fail-if-requires returns)

@@ -1,0 +1,26 @@
+-- A call's tests in parts, and films of which a test reads only a part.
+use mathlib.Core.Bool.{Bool}
+use mathlib.Core.List.{List}
+use Prim.Native.Nat.{ℕ, _*_}
+use lib.IntN.{ℤ, pos}
+use Rattle.model.specs.Lists.{tabulate}
+use Rattle.model.specs.Refusals.{Check, _orElse_}
+use Rattle.model.specs.Film.{Film, filmOf}
+use Rattle.model.specs.Checks.{sizeCheck, coefficientCheck, weightCheck, dominanceCheck}
+use Rattle.model.specs.declared.Head.{Head}
+
+-- 14, 6 and 9
+abbrev pub valueCheck : Film → Check
+valueCheck f = coefficientCheck f orElse weightCheck f orElse dominanceCheck f
+
+-- 4, 5, 10, 14, 6 and 9: the tests that every call has
+abbrev pub ownCheck : Film → Bool → Check
+ownCheck f fits = sizeCheck f fits orElse valueCheck f
+
+-- without weights, which the test of the coefficients is not lent: zeros stand for them
+abbrev pub unweighted : Head → List ℕ → List ℕ → List ℕ → List ℤ → Film
+unweighted h diagonals rights ups sources = filmOf h (tabulate (h .rows * h .columns) (λ i. 0)) diagonals rights ups sources
+
+-- without sources, which the test of the weighted row sums is not lent
+abbrev pub sourceless : Head → List ℕ → List ℕ → List ℕ → List ℕ → Film
+sourceless h weights diagonals rights ups = filmOf h weights diagonals rights ups (tabulate (h .rows * h .columns) (λ i. pos 0))

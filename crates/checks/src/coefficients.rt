@@ -1,0 +1,86 @@
+// Refusal 14: a cell's diagonal, links and source within their limits, and no link that leaves the grid.
+ghost use mathlib.Core.Path.{_≡_};
+ghost use mathlib.Core.Bool.{_&&_};
+ghost use Prim.Native.Nat.{_+_, _*_, _<_};
+ghost use lib.Dec.{ltb, leb};
+ghost use lib.IntN.{natAbs};
+ghost use Rattle.model.specs.Limits.{sourceLimit};
+ghost use Rattle.model.specs.Refusals.{checkOf};
+ghost use Rattle.model.specs.Checks.{badCoefficient, coefficientCheck};
+ghost use Rattle.model.specs.Accepted.{Sized};
+ghost use Rattle.checks.specs.Parts.{unweighted};
+use model::Fault;
+use model::Head;
+use model::Refusal;
+use model::Tested;
+
+// The limits of model/specs/Limits.
+const DIAGONAL_LIMIT: u32 = 134217728;
+
+const LINK_LIMIT: u32 = 16777216;
+
+const SOURCE_LIMIT: u64 = 1125899906842624;
+
+// Whether a link leads out of the grid: it is above 0 at the last of n places.
+fn leaves_grid(n: usize, place: usize, link: u32) -> bool
+    requires { ⌜ place < 1024 ⌝ }
+    ensures { λ r. ⌜ r ≡ (leb n (place + 1) && ltb 0 link) ⌝ }
+{
+    (n <= place + 1) & (0 < link)
+}
+
+// Whether a source is too far from 0, either way.
+fn far_source(source: i64) -> bool
+    ensures { λ r. ⌜ r ≡ ltb sourceLimit (natAbs source) ⌝ }
+{
+    (SOURCE_LIMIT < cell::lift(source)) | (SOURCE_LIMIT < cell::drop(source))
+}
+
+// Whether a cell's diagonal, right or up link or source is outside its limits.
+fn bad_coefficient(
+    head: Head,
+    diagonals: &[u32],
+    rights: &[u32],
+    ups: &[u32],
+    sources: &[i64],
+    at: usize,
+) -> bool
+    requires { ⌜ Sized (unweighted head (now diagonals) (now rights) (now ups) (now sources)) ⌝ }
+    requires { ⌜ at < head .rows * head .columns ⌝ }
+    ensures { λ r. ⌜ r ≡ badCoefficient (unweighted head (now (diagonals .entry)) (now (rights .entry)) (now (ups .entry)) (now (sources .entry))) at ⌝ }
+{
+    let rows = head.rows as usize;
+    let columns = head.columns as usize;
+    let right = rights[at];
+    let up = ups[at];
+    crate::outside(diagonals[at], 1, DIAGONAL_LIMIT)
+        | (LINK_LIMIT < right)
+        | (LINK_LIMIT < up)
+        | leaves_grid(columns, at % columns, right)
+        | leaves_grid(rows, at / columns, up)
+        | far_source(sources[at])
+}
+
+// Refusal 14, at the lowest cell.
+pub fn coefficient_test(
+    head: Head,
+    diagonals: &[u32],
+    rights: &[u32],
+    ups: &[u32],
+    sources: &[i64],
+) -> Tested
+    requires { ⌜ Sized (unweighted head (now diagonals) (now rights) (now ups) (now sources)) ⌝ }
+    ensures { λ r. ⌜ checkOf r ≡ coefficientCheck (unweighted head (now (diagonals .entry)) (now (rights .entry)) (now (ups .entry)) (now (sources .entry))) ⌝ }
+{
+    let mut i = 0;
+    while i < diagonals.len() {
+        if bad_coefficient(head, diagonals, rights, ups, sources, i) {
+            return Tested::Refused(Refusal {
+                fault: Fault::BadCoefficient,
+                place: i,
+            });
+        }
+        i += 1;
+    }
+    Tested::Fine
+}

@@ -1,0 +1,105 @@
+-- A relaxation and a slack by the cell that was loaded; and the calls by what their tests find. Weights count for the tests alone.
+use mathlib.Core.Path.{_≡_, refl, sym, ap, _∙_}
+use mathlib.Core.Bool.{true}
+use mathlib.Core.List.{List, []}
+use Prim.Native.Nat.{ℕ, _*_, _≤_, _<_, max}
+use native.Mathlib.Omega.{arith}
+use lib.IntN.{ℤ}
+use lib.Dec.{leb}
+use lib.ListN.{length, getD}
+use Rattle.monotone.specs.Sweep as theory
+use borrow.Author.Tests.{leb-false}
+use Rattle.model.specs.Refusals.{pass, fail, checkOf}
+use Rattle.model.specs.Film.{Film, filmOf, sizeOf, beside, across, neighbours, slackOf, slack}
+use Rattle.model.specs.Checks.{fieldCheck, cellCheck}
+use Rattle.model.specs.Accepted.{Limited}
+use Rattle.model.proofs.Checks.{failIf-pass, field-passes}
+use Rattle.model.specs.Result.{Gives}
+use Rattle.model.specs.Relaxation.{requiredFor, required, RelaxAnswer, quiet, raised, over, relaxedTo, relaxBy, visitCheck, relaxCall, SlackAnswer, slackCall}
+use Rattle.model.specs.declared.Head.{Head}
+use Rattle.model.specs.declared.Tested.{Tested}
+use Rattle.cell.specs.declared.Cell.{Cell}
+use Rattle.grid.specs.Pull.{cellBy}
+use Rattle.grid.proofs.Limited.{cell-is}
+use Rattle.sweep.specs.Relaxation.{kindOf, fieldAfter, Visited}
+use Rattle.sweep.specs.declared.Visit.{Visit}
+use Rattle.sweep.proofs.Relaxation.{relax-target, raise-above}
+
+-- what a film, a field and a cell are that have passed their tests
+pub record Ready (f : Film) (p : List ℕ) (i : ℕ) : Type 0 where
+  pub limited : Limited f
+  pub len : length p ≡ sizeOf f
+  pub inside : i < sizeOf f
+
+pub visit-ready : (f : Film) (p : List ℕ) (i : ℕ) → visitCheck f p i ≡ pass → Ready f p i
+visit-ready f p i e =
+    let P = field-passes f p true pass (cellCheck f i) e in
+    record { limited = P .film .limited; len = P .bounded .len; inside = leb-false _ _ (failIf-pass (leb (sizeOf f) i) 13 0 (P .place-is)) }
+
+-- the tests of a call, from what they answered: t of the film and the field, and x of the cell
+pub visit-tested : (f : Film) (p : List ℕ) (i : ℕ) (t x : Tested) → checkOf t ≡ fieldCheck f p true pass (checkOf x) → checkOf x ≡ cellCheck f i
+    → checkOf t ≡ visitCheck f p i
+visit-tested f p i t x e g = rw (← g) e
+
+-- a raise goes to at most the ceiling
+pub raised-fits : {p exit : List ℕ} {i ceiling target : ℕ} {v : Visit} → Visited p i target ceiling v exit → kindOf v ≡ theory.raise → target ≤ ceiling
+raised-fits {p} {exit} {i} {ceiling} {target} S e = (raise-above ceiling target (getD p i 0) (sym (S .kind) ∙ e)) .1
+
+-- a visit that goes to the larger of pressure and required pressure, by what it found
+module _ {p exit : List ℕ} {i ceiling target : ℕ} {v : Visit} (required : ℕ) (S : Visited p i target ceiling v exit)
+    (t : target ≡ max (getD p i 0) required) where
+  found : kindOf v ≡ theory.relax ceiling required (getD p i 0)
+  found = S .kind ∙ ap (λ (r : ℕ). theory.relax ceiling r (getD p i 0)) t ∙ relax-target ceiling required (getD p i 0)
+
+  taken : (k : theory.Relaxation) → kindOf v ≡ k → (a : RelaxAnswer) → a ≡ relaxedTo k required p i .answer
+      → fieldAfter k p i target ≡ relaxedTo k required p i .lent → Gives (relaxedTo (theory.relax ceiling required (getD p i 0)) required p i) a exit
+  taken k e a f g =
+      let h : theory.relax ceiling required (getD p i 0) ≡ k = sym found ∙ e in
+      let w : theory.relax ceiling target (getD p i 0) ≡ k = sym (S .kind) ∙ e in
+      record { answer-is = rw h f; lent-is = rw h (rw w at (S .field) ∙ g) }
+
+  pub gives-quiet : kindOf v ≡ theory.quiet → Gives (relaxedTo (theory.relax ceiling required (getD p i 0)) required p i) quiet exit
+  gives-quiet e = taken theory.quiet e quiet refl refl
+
+  pub gives-over : kindOf v ≡ theory.exceed → Gives (relaxedTo (theory.relax ceiling required (getD p i 0)) required p i) (over i) exit
+  gives-over e = taken theory.exceed e (over i) refl refl
+
+  pub gives-raised : kindOf v ≡ theory.raise → Gives (relaxedTo (theory.relax ceiling required (getD p i 0)) required p i) (raised target) exit
+  gives-raised e =
+      let r = raise-above ceiling required (getD p i 0) (sym found ∙ e) in
+      let z : target ≡ required = omega (arith, r) in
+      taken theory.raise e (raised target) (ap raised z) (ap (λ (x : ℕ). fieldAfter theory.raise p i x) z)
+
+module _ (h : Head) (diagonals rights ups : List ℕ) (sources : List ℤ) where
+  abbrev pub bare : Film
+  bare = filmOf h [] diagonals rights ups sources
+
+  abbrev pub whole : List ℕ → Film
+  whole w = filmOf h w diagonals rights ups sources
+
+  -- the required pressure and the slack, from the cell that was loaded
+  module _ (w p : List ℕ) (i : ℕ) (l : Limited (whole w)) (b : i < h .rows * h .columns) (c : Cell)
+      (e : c ≡ cellBy (h .columns) diagonals rights ups sources p i) where
+    pub cell-required : requiredFor (c .diagonal) (c .pull) (c .source) ≡ required bare p i
+    unfolding neighbours beside across
+    cell-required = ap (λ (x : Cell). requiredFor (x .diagonal) (x .pull) (x .source)) (e ∙ cell-is l p i b)
+
+    pub cell-slack : slackOf (c .diagonal) (c .pull) (c .source) (getD p i 0) ≡ slack bare p i
+    unfolding neighbours beside across
+    cell-slack = ap (λ (x : Cell). slackOf (x .diagonal) (x .pull) (x .source) (getD p i 0)) (e ∙ cell-is l p i b)
+
+  module _ (w p : List ℕ) (i : ℕ) where
+    pub relax-passed : {a : RelaxAnswer} {exit : List ℕ} → visitCheck (whole w) p i ≡ pass → Gives (relaxBy pass bare p i) a exit
+        → Gives (relaxCall (whole w) p i) a exit
+    unfolding neighbours beside across
+    relax-passed e G = rw e G
+
+    pub relax-refused : {number place : ℕ} → visitCheck (whole w) p i ≡ fail number place → Gives (relaxCall (whole w) p i) (RelaxAnswer.refused number place) p
+    relax-refused e = record { answer-is = rw e; lent-is = rw e }
+
+    pub slack-passed : {z : ℤ} → visitCheck (whole w) p i ≡ pass → z ≡ slack bare p i → SlackAnswer.is z ≡ slackCall (whole w) p i
+    unfolding neighbours beside across
+    slack-passed e z = rw e (ap SlackAnswer.is z)
+
+    pub slack-refused : {number place : ℕ} → visitCheck (whole w) p i ≡ fail number place → SlackAnswer.refused number place ≡ slackCall (whole w) p i
+    slack-refused e = rw e
