@@ -106,7 +106,7 @@ pub fn slack(
 ) -> Slack
     ensures { λ r. ⌜ slackAnswerOf r ≡ slackCall (filmOf head (now (weights .entry)) (now (diagonals .entry)) (now (rights .entry)) (now (ups .entry)) (now (sources .entry))) (now (field .entry)) at ⌝ }
 {
-    let place = checks::cell_test(head, at);
+    let inside = checks::cell_test(head, at);
     match checks::field_tests(
         head,
         weights,
@@ -117,7 +117,7 @@ pub fn slack(
         field,
         true,
         Tested::Fine,
-        place,
+        inside,
     ) {
         Tested::Fine => Slack::Is(slack_of(head, diagonals, rights, ups, sources, field, at)),
         Tested::Refused(r) => Slack::Refused(r),

@@ -1,0 +1,72 @@
+-- The calls for one line, by what their tests find.
+use mathlib.Core.Path.{_≡_, ap}
+use mathlib.Core.List.{List, []}
+use Prim.Native.Nat.{ℕ, zero, suc, _+_, _-_, _*_, _≤_}
+use native.Mathlib.Nat.{mul-le-mul-right, suc-mul}
+use native.Mathlib.Omega.{arith}
+use borrow.Author.Tests.{eqb-true}
+use lib.Dec.{eqb}
+use lib.IntN.{ℤ}
+use lib.ListN.{length}
+use Rattle.monotone.specs.Rule.{Bounded}
+use Rattle.monotone.specs.Linear.{ruleOf}
+use Rattle.model.specs.Refusals.{Check, pass, fail, checkOf}
+use Rattle.model.specs.Film.{Film, filmOf, sizeOf, systemOf}
+use Rattle.model.specs.Checks.{outside, fieldCheck, lineCheck}
+use Rattle.model.specs.Accepted.{Accepted}
+use Rattle.model.specs.Result.{Gives}
+use Rattle.model.specs.Proposal.{ProposalAnswer, lineStart, propose, proposeCall}
+use Rattle.model.proofs.Checks.{within, failIf-pass, field-passes}
+use Rattle.model.specs.declared.Head.{Head}
+use Rattle.model.specs.declared.Tested.{Tested}
+use Rattle.proposal.proofs.Proposal.{propose-weights}
+
+-- the tests of a call for a line that is lent a field and a slice of the line's numbers
+abbrev pub lineTests : Film → List ℕ → List ℕ → ℕ → Check
+lineTests f p numbers line = fieldCheck f p (eqb (length numbers) (f .columns)) pass (lineCheck f line)
+
+-- the tests from what they answered: t of the film and the field, and x of the line
+pub line-tested : (f : Film) (p numbers : List ℕ) (line : ℕ) (t x : Tested)
+    → checkOf t ≡ fieldCheck f p (eqb (length numbers) (f .columns)) pass (checkOf x) → checkOf x ≡ lineCheck f line → checkOf t ≡ lineTests f p numbers line
+line-tested f p numbers line t x e g = rw (← g) e
+
+-- what has passed
+pub record Ready (f : Film) (p numbers : List ℕ) (line : ℕ) : Type 0 where
+  pub film : Accepted f
+  pub bounded : Bounded (ruleOf (systemOf f)) p
+  pub len : length numbers ≡ f .columns
+  pub line-some : 1 ≤ line
+  pub line-low : line ≤ f .rows
+  pub inside : lineStart f line + f .columns ≤ sizeOf f
+
+row-inside : (line rows columns : ℕ) → 1 ≤ line → line ≤ rows → (line - 1) * columns + columns ≤ rows * columns
+row-inside (suc k) rows columns h l = omega (arith, mul-le-mul-right columns l, suc-mul k columns, ap (λ (m : ℕ). m * columns) (one k))
+  where
+    one : (k : ℕ) → suc k - 1 ≡ k
+    one k = omega arith
+row-inside zero rows columns h l = absurd (omega arith)
+
+pub line-ready : (f : Film) (p numbers : List ℕ) (line : ℕ) → lineTests f p numbers line ≡ pass → Ready f p numbers line
+line-ready f p numbers line e =
+    let P = field-passes f p (eqb (length numbers) (f .columns)) pass (lineCheck f line) e in
+    let l = within line 1 (f .rows) (failIf-pass (outside line 1 (f .rows)) 13 0 (P .place-is)) in
+    record {
+      film = P .film;
+      bounded = P .bounded;
+      len = eqb-true _ _ (P .fits-is);
+      line-some = l .0;
+      line-low = l .1;
+      inside = row-inside line (f .rows) (f .columns) (l .0) (l .1);
+    }
+
+module _ (h : Head) (w diagonals rights ups : List ℕ) (sources : List ℤ) (p numbers : List ℕ) (line : ℕ) where
+  abbrev film : Film
+  film = filmOf h w diagonals rights ups sources
+
+  pub propose-passed : {a : ProposalAnswer} {exit : List ℕ} → lineTests film p numbers line ≡ pass
+      → Gives (propose (filmOf h [] diagonals rights ups sources) (lineStart film line) numbers p) a exit → Gives (proposeCall film line numbers p) a exit
+  propose-passed e G = rw (e, ← (propose-weights h diagonals rights ups sources w (lineStart film line) numbers p)) G
+
+  pub propose-refused : {number place : ℕ} → lineTests film p numbers line ≡ fail number place
+      → Gives (proposeCall film line numbers p) (ProposalAnswer.refused number place) p
+  propose-refused e = record { answer-is = rw e; lent-is = rw e }

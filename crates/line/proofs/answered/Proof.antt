@@ -1,0 +1,21 @@
+-- `line::answered` meets its contract.
+use mathlib.Core.Path.{ap, sym}
+use borrow.Author.Needs.{needs}
+use Rattle.proposal.specs.Decision.{decisionOf}
+use Rattle.line.proofs.answered.Statement.{statement}
+use Rattle.line.proofs.answered.Tie as tie
+
+enum-known-decision : tie.Need-enum-known-decision
+enum-known-decision c = search needs
+
+enum-told : tie.Need-enum-told
+enum-told c = search needs
+
+returns : tie.Need-returns
+returns c = ap decisionOf (sym (c .before .decision .given .1))
+
+returns-2 : tie.Need-returns-2
+returns-2 c = search needs
+
+pub answered-spec : {M : Type 1} → statement M
+answered-spec = tie.close (tie.spec enum-known-decision enum-told returns returns-2)

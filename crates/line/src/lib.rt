@@ -1,0 +1,80 @@
+// Public calls for one line of the grid: the film's margin, a line proposal, and the program's own estimate of a line.
+// They ask nothing of their caller: each tests its input first, in document 01's order, and a refused call changes nothing.
+//
+// Proved: the whole answer, and the lent field or slice, are those of crate `model` (marginCall, proposeCall, estimateCall).
+ghost use mathlib.Core.Path.{_≡_};
+ghost use Prim.Native.Nat.{_-_, _*_, _≤_};
+ghost use Rattle.model.specs.Film.{filmOf};
+ghost use Rattle.model.specs.Result.{Gives};
+ghost use Rattle.model.specs.Proposal.{proposalAnswerOf, proposeCall};
+ghost use Rattle.model.specs.Margin.{marginAnswerOf, marginCall};
+ghost use Rattle.model.specs.Estimate.{estimateAnswerOf, estimateCall};
+ghost use Rattle.proposal.specs.Decision.{decisionOf};
+use model::Estimated;
+use model::Head;
+use model::Margin;
+use model::Proposed;
+use model::Tested;
+use proposal::Decision;
+
+// The first cell of a line, which is counted from 1.
+pub fn line_start(columns: u32, line: u32) -> usize
+    requires { ⌜ (1 ≤ line) × ((line ≤ 32) × (columns ≤ 32)) ⌝ }
+    ensures { λ r. ⌜ r ≡ (line - 1) * columns ⌝ }
+{
+    ((line - 1) * columns) as usize
+}
+
+fn answered(decision: Decision) -> Proposed
+    ensures { λ r. ⌜ proposalAnswerOf r ≡ decisionOf decision ⌝ }
+{
+    match decision {
+        Decision::Accepted(cells) => Proposed::Accepted(cells),
+        Decision::Rejected => Proposed::Rejected,
+    }
+}
+
+// Proposes pressures for a line of the field (document 01: a line offer).
+pub fn propose(
+    head: Head,
+    weights: &[u16],
+    diagonals: &[u32],
+    rights: &[u32],
+    ups: &[u32],
+    sources: &[i64],
+    field: &mut [u32],
+    line: u32,
+    proposal: &[u32],
+) -> Proposed
+    ensures { λ r. ⌜ Gives (proposeCall (filmOf head (now (weights .entry)) (now (diagonals .entry)) (now (rights .entry)) (now (ups .entry)) (now (sources .entry))) line (now (proposal .entry)) (now (field .entry))) (proposalAnswerOf r) (now (field .exit)) ⌝ }
+{
+    let place = checks::line_test(head, line);
+    let fits = proposal.len() == head.columns as usize;
+    match checks::field_tests(
+        head,
+        weights,
+        diagonals,
+        rights,
+        ups,
+        sources,
+        &field[..],
+        fits,
+        Tested::Fine,
+        place,
+    ) {
+        Tested::Fine => {
+            let start = line_start(head.columns, line);
+            answered(proposal::propose(
+                head,
+                diagonals,
+                rights,
+                ups,
+                sources,
+                field,
+                start,
+                proposal,
+            ))
+        }
+        Tested::Refused(r) => Proposed::Refused(r),
+    }
+}
