@@ -3,7 +3,6 @@
 //
 // Proved: the whole answer, and the lent field or slice, are those of crate `model` (marginCall, proposeCall, estimateCall).
 ghost use mathlib.Core.Path.{_≡_};
-ghost use Prim.Native.Nat.{_-_, _*_, _≤_};
 ghost use Rattle.model.specs.Film.{filmOf};
 ghost use Rattle.model.specs.Result.{Gives};
 ghost use Rattle.model.specs.Proposal.{proposalAnswerOf, proposeCall};
@@ -17,14 +16,7 @@ use model::Proposed;
 use model::Tested;
 use proposal::Decision;
 
-// The first cell of a line, which is counted from 1.
-pub fn line_start(columns: u32, line: u32) -> usize
-    requires { ⌜ (1 ≤ line) × ((line ≤ 32) × (columns ≤ 32)) ⌝ }
-    ensures { λ r. ⌜ r ≡ (line - 1) * columns ⌝ }
-{
-    ((line - 1) * columns) as usize
-}
-
+// What was decided, as the call answers it.
 fn answered(decision: Decision) -> Proposed
     ensures { λ r. ⌜ proposalAnswerOf r ≡ decisionOf decision ⌝ }
 {
@@ -63,7 +55,7 @@ pub fn propose(
         place,
     ) {
         Tested::Fine => {
-            let start = line_start(head.columns, line);
+            let start = proposal::line_start(head.columns, line);
             answered(proposal::propose(
                 head,
                 diagonals,

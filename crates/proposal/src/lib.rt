@@ -25,6 +25,14 @@ pub enum Decision {
     Rejected,
 }
 
+// The first cell of a line, which is counted from 1.
+pub fn line_start(columns: u32, line: u32) -> usize
+    requires { ⌜ (1 ≤ line) × ((line ≤ 32) × (columns ≤ 32)) ⌝ }
+    ensures { λ r. ⌜ r ≡ (line - 1) * columns ⌝ }
+{
+    ((line - 1) * columns) as usize
+}
+
 // The larger of two pressures.
 fn larger(a: u32, b: u32) -> u32
     ensures { λ r. ⌜ r ≡ max a b ⌝ }

@@ -1,10 +1,10 @@
--- `line::line_start` meets its contract.
+-- `proposal::line_start` meets its contract.
 use native.Mathlib.Nat.{mul-le-mul}
 use native.Mathlib.Omega.{arith}
 use Prim.Native.Nat.{_-_, _*_, _≤_}
 use borrow.Author.Needs.{needs}
-use Rattle.line.proofs.line_start.Statement.{statement}
-use Rattle.line.proofs.line_start.Tie as tie
+use Rattle.proposal.proofs.line_start.Statement.{statement}
+use Rattle.proposal.proofs.line_start.Tie as tie
 
 low : (c : tie.Start) → (c .args .line - 1) * c .args .columns ≤ 32 * 32
 low c = mul-le-mul {n₁ = c .args .line - 1} {m₁ = c .args .columns} {n₂ = 32} {m₂ = 32} (omega arith) (omega arith)

@@ -1,0 +1,50 @@
+-- The relaxations of a run: the sweep by index over the table is the film's own, and its end is the run's answer.
+use mathlib.Core.Path.{_≡_, ap₂, _∙_}
+use mathlib.Core.List.{List, []}
+use Prim.Native.Nat.{ℕ, _*_, _<_}
+use native.Mathlib.Nat.{mul-pos}
+use lib.IntN.{ℤ}
+use lib.ListN.{length}
+use Rattle.monotone.specs.Linear.{ruleOf}
+use Rattle.monotone.specs.Sweep as theory
+use Rattle.model.specs.Lists.{tabulate}
+use Rattle.model.specs.Film.{Film, filmOf, sizeOf, systemOf, beside, across, neighbours}
+use Rattle.model.specs.Accepted.{Limited}
+use Rattle.model.specs.Result.{Gives}
+use Rattle.model.specs.Run.{RunAnswer, countsOf, endOf, ended, orderOf, ordering}
+use Rattle.model.specs.declared.Counts.{Counts}
+use Rattle.model.specs.declared.Head.{Head}
+use Rattle.sweep.specs.Rule.{ruleBy}
+use Rattle.sweep.specs.Sweep.{answerOf, counterOf, Listed, Ends}
+use Rattle.sweep.specs.declared.Swept.{Swept}
+use Rattle.sweep.proofs.Film.{table-listed, film-sweep}
+use Rattle.run.specs.Counts.{countsIn}
+
+module _ (h : Head) (diagonals rights ups : List ℕ) (sources : List ℤ) (w : List ℕ) (l : Limited (filmOf h w diagonals rights ups sources)) where
+  abbrev whole : Film
+  whole = filmOf h w diagonals rights ups sources
+
+  some : 0 < sizeOf whole
+  some = mul-pos (l .sized .rows-some) (l .sized .columns-some)
+
+  module _ (order : ℕ) (table p : List ℕ) (e : table ≡ tabulate (h .rows * h .columns) (orderOf (h .columns) (h .rows * h .columns) order))
+      (n : length p ≡ h .rows * h .columns) where
+    pub cells-listed : Listed table (length p)
+    cells-listed = rw n (table-listed l order table e)
+
+    pub cells-some : 0 < length p
+    cells-some = rw n some
+
+    pub run-gives : (budget accepted : ℕ) (s : Swept) (a : RunAnswer) (exit : List ℕ)
+        → Ends (ruleBy (length table) (h .ceiling) (h .columns) diagonals rights ups sources) table budget p s exit
+        → a ≡ endOf (answerOf s) (countsIn (counterOf s) accepted)
+        → Gives (ended (theory.sweep (ruleOf (systemOf (filmOf h [] diagonals rights ups sources))) (ordering (filmOf h [] diagonals rights ups sources) order) budget (theory.begin p)) accepted) a exit
+    unfolding neighbours beside across
+    run-gives budget accepted s a exit E f =
+        let F = film-sweep l order table e budget p some in
+        let counts : countsIn (counterOf s) accepted ≡ countsOf (theory.sweep (ruleOf (systemOf whole)) (ordering whole order) budget (theory.begin p) .last) accepted
+            = ap₂ (λ (v r : ℕ). record { visits = v; raises = r; accepted = accepted }) (rw F at (E .visits)) (rw F at (E .raises)) in
+        record {
+          answer-is = f ∙ ap₂ (λ (x : theory.Answer) (c : Counts). endOf x c) (rw F at (E .answer)) counts;
+          lent-is = rw F at (E .field);
+        }
