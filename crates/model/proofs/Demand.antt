@@ -24,7 +24,7 @@ use Rattle.model.specs.Demand.{Step, ran, proposed, exitOf, Kept, Each, 
 use Rattle.model.proofs.Film.{feasible-to, feasible-from, least-exists, least-feasible}
 use Rattle.model.proofs.Checks.{check-passes, accepted-positive}
 use Rattle.model.proofs.History.{calls-good}
-use Rattle.model.proofs.Formed.{file-film}
+use Rattle.model.proofs.Forming.{file-film}
 
 -- P of each step gives Q of each
 each-map : {P Q : List ℕ → Step → Type 0} → ((entry : List ℕ) (s : Step) → P entry s → Q entry s) → (entry : List ℕ) (ss : List Step)

@@ -11,5 +11,5 @@ pub mod Run
 pub mod History
 pub mod Demand
 pub mod File
-pub mod Formed
+pub mod Forming
 pub mod FilmF

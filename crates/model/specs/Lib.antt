@@ -18,6 +18,7 @@ pub mod Run
 pub mod History
 pub mod Bytes
 pub mod File
+pub mod FileCalls
 pub mod Report
 pub mod Demand
 pub mod FilmF

@@ -92,3 +92,21 @@ pub enum Ran {
     Over(usize, Counts),
     Refused(Refusal),
 }
+
+// The answer of the call that forms coefficients, which are written into lent slices.
+pub enum Formed {
+    Written,
+    Refused(Refusal),
+}
+
+// The answer of the film file's writer: the file is written into a lent slice.
+pub enum Saved {
+    Written,
+    Refused(Refusal),
+}
+
+// The answer of the film file's reader: shape, ceiling and wedge; weights and thicknesses are in the lent buffers.
+pub enum Loaded {
+    Film(Head, i32),
+    Refused(Refusal),
+}

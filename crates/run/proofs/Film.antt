@@ -43,7 +43,7 @@ module _ (h : Head) (diagonals rights ups : List ℕ) (sources : List ℤ) (w : 
     run-gives budget accepted s a exit E f =
         let F = film-sweep l order table e budget p some in
         let counts : countsIn (counterOf s) accepted ≡ countsOf (theory.sweep (ruleOf (systemOf whole)) (ordering whole order) budget (theory.begin p) .last) accepted
-            = ap₂ (λ (v r : ℕ). record { visits = v; raises = r; accepted = accepted }) (rw F at (E .visits)) (rw F at (E .raises)) in
+        = ap₂ (λ (v r : ℕ). record { visits = v; raises = r; accepted = accepted }) (rw F at (E .visits)) (rw F at (E .raises)) in
         record {
           answer-is = f ∙ ap₂ (λ (x : theory.Answer) (c : Counts). endOf x c) (rw F at (E .answer)) counts;
           lent-is = rw F at (E .field);
