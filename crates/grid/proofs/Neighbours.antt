@@ -20,7 +20,7 @@ pub record Edges (f : Film) : Type 0 where
   pub right : (k : ℕ) → k < sizeOf f → f .columns ≤ columnOf f k + 1 → rightAt f k ≡ 0
   pub up : (k : ℕ) → k < sizeOf f → f .rows ≤ rowOf f k + 1 → upAt f k ≡ 0
 
-pull-append : (ls ms : List (ℕ × ℕ)) (x : ℕ → ℕ) → pull (ls ++ ms) x ≡ pull ls x + pull ms x
+pub pull-append : (ls ms : List (ℕ × ℕ)) (x : ℕ → ℕ) → pull (ls ++ ms) x ≡ pull ls x + pull ms x
 pull-append [] ms x = omega arith
 pull-append (l ∷ ls) ms x = omega (arith, pull-append ls ms x)
 
@@ -83,21 +83,33 @@ module _ (f : Film) (x : List ℕ) (e : Edges f) (k : ℕ) (b : k < sizeOf f) wh
             back-some (f .ups) x k (f .columns) (omega arith) ∙ sym (cond-yes _ _ _ l)
       ]
 
-  pub pull-is : pullBy (f .columns) (f .rights) (f .ups) x k ≡ pullOf f x k
-  unfolding pullBy beside across neighbours
-  pull-is =
+  beside-is : backOf (f .rights) x k 1 + aheadOf (f .rights) x k 1 ≡ pull (beside f k) (λ j. getD x j 0)
+  unfolding beside
+  beside-is =
       let at : ℕ → ℕ = λ j. getD x j 0 in
       omega (
         arith,
         left,
         ahead (f .rights) 1 (columnOf f k + 1) (f .columns) (e .right k b),
-        down,
-        ahead (f .ups) (f .columns) (rowOf f k + 1) (f .rows) (e .up k b),
-        pull-append (beside f k) (across f k) at,
         pull-append (linkIf (ltb 0 (columnOf f k)) (k - 1) (rightAt f (k - 1))) (linkIf (ltb (columnOf f k + 1) (f .columns)) (k + 1) (rightAt f k)) at,
-        pull-append (linkIf (ltb 0 (rowOf f k)) (k - f .columns) (upAt f (k - f .columns))) (linkIf (ltb (rowOf f k + 1) (f .rows)) (k + f .columns) (upAt f k)) at,
         pull-if (ltb 0 (columnOf f k)) (k - 1) (rightAt f (k - 1)) at,
         pull-if (ltb (columnOf f k + 1) (f .columns)) (k + 1) (rightAt f k) at,
+      )
+
+  -- the part of it that comes from the rows before and after
+  pub across-is : backOf (f .ups) x k (f .columns) + aheadOf (f .ups) x k (f .columns) ≡ pull (across f k) (λ j. getD x j 0)
+  unfolding across
+  across-is =
+      let at : ℕ → ℕ = λ j. getD x j 0 in
+      omega (
+        arith,
+        down,
+        ahead (f .ups) (f .columns) (rowOf f k + 1) (f .rows) (e .up k b),
+        pull-append (linkIf (ltb 0 (rowOf f k)) (k - f .columns) (upAt f (k - f .columns))) (linkIf (ltb (rowOf f k + 1) (f .rows)) (k + f .columns) (upAt f k)) at,
         pull-if (ltb 0 (rowOf f k)) (k - f .columns) (upAt f (k - f .columns)) at,
         pull-if (ltb (rowOf f k + 1) (f .rows)) (k + f .columns) (upAt f k) at,
       )
+
+  pub pull-is : pullBy (f .columns) (f .rights) (f .ups) x k ≡ pullOf f x k
+  unfolding pullBy neighbours
+  pull-is = omega (arith, beside-is, across-is, pull-append (beside f k) (across f k) (λ j. getD x j 0))

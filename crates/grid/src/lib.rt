@@ -13,7 +13,7 @@ use cell::Cell;
 pub mod order; // order.rt: the table of an ordering
 
 // The link to the cell that lies `step` before `at`, times that cell's number; 0 if there is none.
-fn pull_back(links: &[u32], numbers: &[u32], at: usize, step: usize) -> u64
+pub fn pull_back(links: &[u32], numbers: &[u32], at: usize, step: usize) -> u64
     requires { ⌜ Links (now links) (now numbers) × (at < length (now numbers)) ⌝ }
     ensures { λ r. ⌜ Product r (backOf (now (links .entry)) (now (numbers .entry)) at step) ⌝ }
 {
@@ -25,7 +25,7 @@ fn pull_back(links: &[u32], numbers: &[u32], at: usize, step: usize) -> u64
 }
 
 // The link to the cell that lies `step` after `at`, times that cell's number; 0 if there is none.
-fn pull_ahead(links: &[u32], numbers: &[u32], at: usize, step: usize) -> u64
+pub fn pull_ahead(links: &[u32], numbers: &[u32], at: usize, step: usize) -> u64
     requires { ⌜ Links (now links) (now numbers) × (at < length (now numbers)) ⌝ }
     requires { ⌜ step ≤ 2 ^ 32 ⌝ }
     ensures { λ r. ⌜ Product r (aheadOf (now (links .entry)) (now (numbers .entry)) at step) ⌝ }

@@ -1,0 +1,3 @@
+-- What the contracts cite beside the model and the theory.
+pub mod Margin
+pub mod Line
