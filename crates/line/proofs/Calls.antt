@@ -1,5 +1,5 @@
 -- The calls for one line, by what their tests find.
-use mathlib.Core.Path.{_≡_, ap}
+use mathlib.Core.Path.{_≡_, sym, ap, _∙_}
 use mathlib.Core.List.{List, []}
 use Prim.Native.Nat.{ℕ, zero, suc, _+_, _-_, _*_, _≤_}
 use native.Mathlib.Nat.{mul-le-mul-right, suc-mul}
@@ -12,14 +12,17 @@ use Rattle.monotone.specs.Rule.{Bounded}
 use Rattle.monotone.specs.Linear.{ruleOf}
 use Rattle.model.specs.Refusals.{Check, pass, fail, checkOf}
 use Rattle.model.specs.Film.{Film, filmOf, sizeOf, systemOf}
-use Rattle.model.specs.Checks.{outside, fieldCheck, lineCheck}
+use Rattle.model.specs.Checks.{outside, fieldCheck, lineCheck, filmCheck}
 use Rattle.model.specs.Accepted.{Accepted}
 use Rattle.model.specs.Result.{Gives}
 use Rattle.model.specs.Proposal.{ProposalAnswer, lineStart, propose, proposeCall}
+use Rattle.model.specs.Margin.{margin, MarginAnswer, marginCall}
+use Rattle.model.specs.Estimate.{estimate, EstimateAnswer, estimateCall}
 use Rattle.model.proofs.Checks.{within, failIf-pass, field-passes}
 use Rattle.model.specs.declared.Head.{Head}
 use Rattle.model.specs.declared.Tested.{Tested}
 use Rattle.proposal.proofs.Proposal.{propose-weights}
+use Rattle.estimate.proofs.LeastMargin.{margin-sources}
 
 -- the tests of a call for a line that is lent a field and a slice of the line's numbers
 abbrev pub lineTests : Film → List ℕ → List ℕ → ℕ → Check
@@ -70,3 +73,22 @@ module _ (h : Head) (w diagonals rights ups : List ℕ) (sources : List ℤ) (p 
   pub propose-refused : {number place : ℕ} → lineTests film p numbers line ≡ fail number place
       → Gives (proposeCall film line numbers p) (ProposalAnswer.refused number place) p
   propose-refused e = record { answer-is = rw e; lent-is = rw e }
+
+  pub estimate-passed : {exit : List ℕ} → lineTests film p numbers line ≡ pass → exit ≡ estimate film p (lineStart film line)
+      → Gives (estimateCall film line p numbers) EstimateAnswer.written exit
+  estimate-passed e g = record { answer-is = rw e; lent-is = rw e g }
+
+  pub estimate-refused : {number place : ℕ} → lineTests film p numbers line ≡ fail number place
+      → Gives (estimateCall film line p numbers) (EstimateAnswer.refused number place) numbers
+  estimate-refused e = record { answer-is = rw e; lent-is = rw e }
+
+-- the margin, of which the sources are no part
+module _ (h : Head) (w diagonals rights ups : List ℕ) (sources : List ℤ) where
+  abbrev weighted : Film
+  weighted = filmOf h w diagonals rights ups sources
+
+  pub margin-passed : {k : ℕ} → filmCheck weighted ≡ pass → k ≡ margin (filmOf h w diagonals rights ups []) → MarginAnswer.is k ≡ marginCall weighted
+  margin-passed e g = rw e (ap MarginAnswer.is (g ∙ sym (margin-sources h w diagonals rights ups sources)))
+
+  pub margin-refused : {number place : ℕ} → filmCheck weighted ≡ fail number place → MarginAnswer.refused number place ≡ marginCall weighted
+  margin-refused e = rw e

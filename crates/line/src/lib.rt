@@ -70,3 +70,69 @@ pub fn propose(
         Tested::Refused(r) => Proposed::Refused(r),
     }
 }
+
+// Tells the film's margin (document 01: K).
+pub fn margin(
+    head: Head,
+    weights: &[u16],
+    diagonals: &[u32],
+    rights: &[u32],
+    ups: &[u32],
+    sources: &[i64],
+) -> Margin
+    ensures { λ r. ⌜ marginAnswerOf r ≡ marginCall (filmOf head (now (weights .entry)) (now (diagonals .entry)) (now (rights .entry)) (now (ups .entry)) (now (sources .entry))) ⌝ }
+{
+    match checks::film_tests(head, weights, diagonals, rights, ups, sources, true) {
+        Tested::Fine => Margin::Is(estimate::margin(head, weights, diagonals, rights, ups)),
+        Tested::Refused(r) => Margin::Refused(r),
+    }
+}
+
+// Writes the program's own proposal for a line into a slice of as many numbers as the line has cells.
+pub fn estimate(
+    head: Head,
+    weights: &[u16],
+    diagonals: &[u32],
+    rights: &[u32],
+    ups: &[u32],
+    sources: &[i64],
+    field: &[u32],
+    line: u32,
+    proposal: &mut [u32],
+) -> Estimated
+    ensures { λ r. ⌜ Gives (estimateCall (filmOf head (now (weights .entry)) (now (diagonals .entry)) (now (rights .entry)) (now (ups .entry)) (now (sources .entry))) line (now (field .entry)) (now (proposal .entry))) (estimateAnswerOf r) (now (proposal .exit)) ⌝ }
+{
+    let place = checks::line_test(head, line);
+    let fits = proposal.len() == head.columns as usize;
+    match checks::field_tests(
+        head,
+        weights,
+        diagonals,
+        rights,
+        ups,
+        sources,
+        field,
+        fits,
+        Tested::Fine,
+        place,
+    ) {
+        Tested::Fine => {
+            let start = proposal::line_start(head.columns, line);
+            let margin = estimate::margin(head, weights, diagonals, rights, ups);
+            estimate::estimate(
+                head,
+                weights,
+                diagonals,
+                rights,
+                ups,
+                sources,
+                field,
+                start,
+                margin,
+                proposal,
+            );
+            Estimated::Written
+        }
+        Tested::Refused(r) => Estimated::Refused(r),
+    }
+}

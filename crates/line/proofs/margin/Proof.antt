@@ -1,0 +1,49 @@
+-- `line::margin` meets its contract.
+use mathlib.Core.Path.{_≡_, sym, ap, _∙_}
+use mathlib.Core.Bool.{true}
+use borrow.Author.Needs.{needs}
+use denote.Ref.{now}
+use Rattle.model.specs.Refusals.{pass, checkOf}
+use Rattle.model.specs.Film.{Film, filmOf}
+use Rattle.model.specs.Checks.{filmCheck}
+use Rattle.model.proofs.Checks.{check-passes}
+use Rattle.checks.proofs.Chain.{film-own}
+use Rattle.line.proofs.Calls.{margin-passed, margin-refused}
+use Rattle.line.proofs.margin.Statement.{statement}
+use Rattle.line.proofs.margin.Tie as tie
+
+abbrev film : tie.Start → Film
+film s = filmOf (s .args .head) (now (s .args .weights)) (now (s .args .diagonals)) (now (s .args .rights)) (now (s .args .ups)) (now (s .args .sources))
+
+-- the tests find what document 01's do
+tested : (t : tie.After-film-tests) → checkOf (t .film-tests .result) ≡ filmCheck (film (t .before .before .before .before .before))
+tested t = t .film-tests .ensures ∙ sym (film-own (film (t .before .before .before .before .before)))
+
+film-tests-requires : tie.Need-film-tests-requires
+film-tests-requires c κs = search needs
+
+enum-told : tie.Need-enum-told
+enum-told c = search needs
+
+margin-requires : tie.Need-margin-requires
+margin-requires c κs =
+    let s = c .before .before .before .before .before .before .before in
+    (now (s .args .sources), (check-passes (film s) true pass pass pass (sym (tested (c .before .before)) ∙ ap checkOf (c .enum-told .given .1))) .film)
+
+enum-known-r : tie.Need-enum-known-r
+enum-known-r c = search needs
+
+returns : tie.Need-returns
+returns c =
+    let s = c .before .before .before .before .before .before .before .before in
+    margin-passed (s .args .head) (now (s .args .weights)) _ _ _ (now (s .args .sources)) (sym (tested (c .before .before .before)) ∙ ap checkOf (c .before .enum-told .given .1)) (c .margin .ensures)
+
+returns-2 : tie.Need-returns-2
+returns-2 c =
+    let s = c .before .before .before .before .before .before .before .before in
+    margin-refused (s .args .head) (now (s .args .weights)) _ _ _ (now (s .args .sources)) (sym (tested (c .before .before .before)) ∙ ap checkOf (c .before .r .given .1))
+
+pub margin-spec : {M : Type 1} → statement M
+margin-spec =
+    tie.close
+    (tie.spec film-tests-requires enum-told margin-requires enum-known-r returns returns-2)
