@@ -1,9 +1,7 @@
 -- The calls for one line, by what their tests find.
 use mathlib.Core.Path.{_≡_, sym, ap, _∙_}
 use mathlib.Core.List.{List, []}
-use Prim.Native.Nat.{ℕ, zero, suc, _+_, _-_, _*_, _≤_}
-use native.Mathlib.Nat.{mul-le-mul-right, suc-mul}
-use native.Mathlib.Omega.{arith}
+use Prim.Native.Nat.{ℕ, _+_, _≤_}
 use borrow.Author.Tests.{eqb-true}
 use lib.Dec.{eqb}
 use lib.IntN.{ℤ}
@@ -21,6 +19,7 @@ use Rattle.model.specs.Estimate.{estimate, EstimateAnswer, estimateCall}
 use Rattle.model.proofs.Checks.{within, failIf-pass, field-passes}
 use Rattle.model.specs.declared.Head.{Head}
 use Rattle.model.specs.declared.Tested.{Tested}
+use Rattle.proposal.proofs.Lines.{row-inside}
 use Rattle.proposal.proofs.Proposal.{propose-weights}
 use Rattle.estimate.proofs.LeastMargin.{margin-sources}
 
@@ -41,13 +40,6 @@ pub record Ready (f : Film) (p numbers : List ℕ) (line : ℕ) : Type 0 where
   pub line-some : 1 ≤ line
   pub line-low : line ≤ f .rows
   pub inside : lineStart f line + f .columns ≤ sizeOf f
-
-row-inside : (line rows columns : ℕ) → 1 ≤ line → line ≤ rows → (line - 1) * columns + columns ≤ rows * columns
-row-inside (suc k) rows columns h l = omega (arith, mul-le-mul-right columns l, suc-mul k columns, ap (λ (m : ℕ). m * columns) (one k))
-  where
-    one : (k : ℕ) → suc k - 1 ≡ k
-    one k = omega arith
-row-inside zero rows columns h l = absurd (omega arith)
 
 pub line-ready : (f : Film) (p numbers : List ℕ) (line : ℕ) → lineTests f p numbers line ≡ pass → Ready f p numbers line
 line-ready f p numbers line e =

@@ -1,7 +1,19 @@
--- A run's counts from a sweep's.
-use Prim.Native.Nat.{ℕ}
+-- A run's counts from a sweep's, and what proposals before it leave.
+use mathlib.Core.Path.{_≡_}
+use mathlib.Core.List.{List}
+use Prim.Native.Nat.{ℕ, _≤_}
+use Rattle.model.specs.Run.{Readied}
 use Rattle.model.specs.declared.Counts.{Counts}
 use Rattle.sweep.specs.declared.Counter.{Counter}
 
 abbrev pub countsIn : Counter → ℕ → Counts
 countsIn c accepted = record { visits = c .visits; raises = c .raises; accepted = accepted }
+
+-- a field before any proposal
+abbrev pub from : List ℕ → Readied
+from p = record { field = p; accepted = 0 }
+
+-- proposals raised so many cells, and left that field
+pub record Readies (r : Readied) (accepted : ℕ) (exit : List ℕ) : Type 0 where
+  pub accepted-is : accepted ≡ r .accepted
+  pub field-is : exit ≡ r .field
