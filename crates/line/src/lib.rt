@@ -103,7 +103,7 @@ pub fn estimate(
     ensures { λ r. ⌜ Gives (estimateCall (filmOf head (now (weights .entry)) (now (diagonals .entry)) (now (rights .entry)) (now (ups .entry)) (now (sources .entry))) line (now (field .entry)) (now (proposal .entry))) (estimateAnswerOf r) (now (proposal .exit)) ⌝ }
 {
     let place = checks::line_test(head, line);
-    let fits = proposal.len() == head.columns as usize;
+    let room = proposal.len() == head.columns as usize;
     match checks::field_tests(
         head,
         weights,
@@ -112,12 +112,12 @@ pub fn estimate(
         ups,
         sources,
         field,
-        fits,
+        room,
         Tested::Fine,
         place,
     ) {
         Tested::Fine => {
-            let start = proposal::line_start(head.columns, line);
+            let first = proposal::line_start(head.columns, line);
             let margin = estimate::margin(head, weights, diagonals, rights, ups);
             estimate::estimate(
                 head,
@@ -127,7 +127,7 @@ pub fn estimate(
                 ups,
                 sources,
                 field,
-                start,
+                first,
                 margin,
                 proposal,
             );

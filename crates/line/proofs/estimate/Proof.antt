@@ -23,8 +23,8 @@ tested t =
 line-test-requires : tie.Need-line-test-requires
 line-test-requires c κs = search needs
 
-cast-fits : tie.Need-cast-fits
-cast-fits c = search needs
+cast-room : tie.Need-cast-room
+cast-room c = search needs
 
 field-tests-requires : tie.Need-field-tests-requires
 field-tests-requires c κs = search needs
@@ -74,7 +74,7 @@ estimate-spec =
     tie.close
     (tie.spec
     line-test-requires
-    cast-fits
+    cast-room
     field-tests-requires
     enum-told
     line-start-requires
