@@ -86,13 +86,16 @@ ringOf g = ringed (g .rows) (g .columns)
 pub pass-both : {x y : Check} → x ≡ pass → y ≡ pass → (x orElse y) ≡ pass
 pass-both e f = rw (e, f)
 
--- where the tests of a film's numbers have all passed
-pub record GaugePassed (g : Gauge) : Type 0 where
+-- where the tests of a film's numbers have passed, all but that of dominance; and that one too
+pub record NumbersPassed (g : Gauge) : Type 0 where
   pub shape : shapeCheck (g .rows) rowsOffset (g .columns) columnsOffset ≡ pass
   pub ceiling : ceilingCheck (g .ceiling) ceilingOffset ≡ pass
   pub weights : weightsCheck (g .weights) (cellsOf g) ≡ pass
   pub thicknesses : thicknessesCheck (g .thicknesses) (cellsOf g) (ringOf g) ≡ pass
   pub wedge : wedgeCheck (g .wedge) (wedgeOffset (cellsOf g) (ringOf g)) ≡ pass
+
+pub record GaugePassed (g : Gauge) : Type 0 where
+  pub numbers : NumbersPassed g
   pub dominant : gaugeDominance g ≡ pass
 
 pub gauge-passes : (g : Gauge) → gaugeCheck g true ≡ pass → GaugePassed g
@@ -103,14 +106,15 @@ gauge-passes g e =
     let c = orElse-parts (weightsCheck (g .weights) (cellsOf g)) _ (b .1) in
     let d = orElse-parts (thicknessesCheck (g .thicknesses) (cellsOf g) (ringOf g)) _ (c .1) in
     let w = orElse-parts (wedgeCheck (g .wedge) (wedgeOffset (cellsOf g) (ringOf g))) _ (d .1) in
-    record { shape = a .0; ceiling = b .0; weights = c .0; thicknesses = d .0; wedge = w .0; dominant = w .1 }
+    record { numbers = record { shape = a .0; ceiling = b .0; weights = c .0; thicknesses = d .0; wedge = w .0 }; dominant = w .1 }
 
 -- and back
 gauge-tests : (g : Gauge) → GaugePassed g → gaugeCheck g true ≡ pass
 unfolding gaugeCheck
 gauge-tests g p =
-    pass-both (p .shape) (pass-both (p .ceiling) (pass-both (p .weights)
-    (pass-both (p .thicknesses) (pass-both (p .wedge) (p .dominant)))))
+    let n = p .numbers in
+    pass-both (n .shape) (pass-both (n .ceiling) (pass-both (n .weights)
+    (pass-both (n .thicknesses) (pass-both (n .wedge) (p .dominant)))))
 
 -- the tests of the file beside those of its numbers: five fields, and nothing after them
 record Fields (l : List ℕ) (n t : ℕ) : Type 0 where
@@ -138,16 +142,20 @@ fields-pass l g e =
     let t5 = orElse-parts (wedgeCheck (g .wedge) (wedgeOffset n t)) _ (f5 .1) in
     let f6 = orElse-parts (failIf (ltb (endOffset n t) (length l)) 2 (endOffset n t)) _ (t5 .1) in (
       record { shape = f1 .0; ceiling = f2 .0; weights = f3 .0; thicknesses = f4 .0; wedge = f5 .0; ends = f6 .0 },
-      record { shape = t1 .0; ceiling = t2 .0; weights = t3 .0; thicknesses = t4 .0; wedge = t5 .0; dominant = f6 .1 },
+      record {
+        numbers = record { shape = t1 .0; ceiling = t2 .0; weights = t3 .0; thicknesses = t4 .0; wedge = t5 .0 };
+        dominant = f6 .1;
+      },
     )
 
 -- and back
 fields-tests : (l : List ℕ) (g : Gauge) → Fields l (cellsOf g) (ringOf g) → GaugePassed g
     → fieldsCheck l g (cellsOf g) (ringOf g) ≡ pass
 fields-tests l g f p =
-    pass-both (f .shape) (pass-both (p .shape) (pass-both (f .ceiling) (pass-both (p .ceiling)
-    (pass-both (f .weights) (pass-both (p .weights) (pass-both (f .thicknesses) (pass-both (p .thicknesses)
-    (pass-both (f .wedge) (pass-both (p .wedge) (pass-both (f .ends) (p .dominant)))))))))))
+    let n = p .numbers in
+    pass-both (f .shape) (pass-both (n .shape) (pass-both (f .ceiling) (pass-both (n .ceiling)
+    (pass-both (f .weights) (pass-both (n .weights) (pass-both (f .thicknesses) (pass-both (n .thicknesses)
+    (pass-both (f .wedge) (pass-both (n .wedge) (pass-both (f .ends) (p .dominant)))))))))))
 
 -- what the tests of the shape and of the wedge number say
 
@@ -157,14 +165,14 @@ pub record Shaped (g : Gauge) : Type 0 where
   pub columns-some : 1 ≤ g .columns
   pub columns-low : g .columns ≤ sideLimit
 
-pub gauge-shape : (g : Gauge) → GaugePassed g → Shaped g
-gauge-shape g p =
-    let s = orElse-parts (failIf (outside (g .rows) 1 sideLimit) 4 rowsOffset) _ (p .shape) in
+pub gauge-shape : (g : Gauge) → shapeCheck (g .rows) rowsOffset (g .columns) columnsOffset ≡ pass → Shaped g
+gauge-shape g e =
+    let s = orElse-parts (failIf (outside (g .rows) 1 sideLimit) 4 rowsOffset) _ e in
     let rows = within (g .rows) 1 sideLimit (failIf-pass _ 4 rowsOffset (s .0)) in
     let columns = within (g .columns) 1 sideLimit (failIf-pass _ 4 columnsOffset (s .1)) in
     record { rows-some = rows .0; rows-low = rows .1; columns-some = columns .0; columns-low = columns .1 }
 
-pub wedge-low : {g : Gauge} → GaugePassed g → natAbs (g .wedge) ≤ wedgeLimit
+pub wedge-low : {g : Gauge} → NumbersPassed g → natAbs (g .wedge) ≤ wedgeLimit
 wedge-low p = ltb-false _ _ (failIf-pass _ 8 _ (p .wedge))
 
 -- ---- fields at their offsets
@@ -324,7 +332,7 @@ written-reads g v e =
     let l = fileOf g in
     let p = gauge-passes g e in
     let L = laid g v in
-    let same : gaugeIn l ≡ g = laid-reads g l v (wedge-low p) L in
+    let same : gaugeIn l ≡ g = laid-reads g l v (wedge-low (p .numbers)) L in
     let fields : Fields l (cellsOf g) (ringOf g) =
     record {
       shape = L .shape .passes;
@@ -382,9 +390,9 @@ pub file-bytes : (g : Gauge) → Values g → gaugeCheck g true ≡ pass → Byt
 unfolding fileOf
 file-bytes g v e =
     let p = gauge-passes g e in
-    let s = gauge-shape g p in
+    let s = gauge-shape g (p .numbers .shape) in
     let count : cellsOf g ≤ sideLimit * sideLimit = mul-le-mul (s .rows-low) (s .columns-low) in
-    field-bytes _ 5 4 _ (omega arith) (omega arith) (long-bytes _ (wedge-long (g .wedge) (wedge-low p)))
+    field-bytes _ 5 4 _ (omega arith) (omega arith) (long-bytes _ (wedge-long (g .wedge) (wedge-low (p .numbers))))
     (field-bytes _ 4 (ringOf g) _ (omega arith) (omega arith) (record { byte = v .thickness-byte })
     (field-bytes _ 3 (2 * cellsOf g) _ (omega arith) (omega arith) (weights-bytes (g .weights) (v .weight-word))
     (field-bytes _ 2 4 _ (omega arith) (omega arith) (long-bytes (g .ceiling) (v .ceiling-long))

@@ -9,7 +9,7 @@ use borrow.Author.Tests.{eqb-false, le-ltb, le-leb, lt-leb, eq-eqb, ne-eqb}
 use lib.Arith.{digits-lt}
 use lib.Dec.{leb, ltb, eqb}
 use lib.IntN.{ℤ, pos, negsuc, negℤ, _-ℤ_, _*ℤ_, natAbs}
-use lib.ListN.{getD}
+use lib.ListN.{length, getD}
 use Rattle.model.specs.Limits.{sideLimit, ceilingLimit, thicknessLimit, wedgeLimit, diagonalLimit, linkLimit, sourceLimit}
 use Rattle.model.specs.Lists.{tabulate, firstOf}
 use Rattle.model.specs.Refusals.{pass, failFirst}
@@ -17,12 +17,12 @@ use Rattle.model.specs.Gauge.{Gauge, thicknessAt}
 use Rattle.model.specs.Film.{Film, sizeOf, weightAt}
 use Rattle.model.specs.Coefficients.{linkOf, formedDiagonal, formedRight, formedUp, formedSource, byCell, formed}
 use Rattle.model.specs.Checks.{outside, filmFits, badCoefficient, zeroWeight, notDominant, sizeCheck, coefficientCheck, weightCheck, dominanceCheck, filmCheck}
-use Rattle.model.specs.Accepted.{Sized, LimitedCell, Accepted}
+use Rattle.model.specs.Accepted.{Sized, LimitedCell, Limited, Accepted}
 use Rattle.model.specs.File.{cells, ringed, ceilingOffset, weightOffset, thicknessOffset, gaugeDominance, readFilm, accepted, gaugeCheck, Bytes, Values}
 use Rattle.model.proofs.Integers.{sub-pos, sub-lt, sub-le, by-order}
 use Rattle.model.proofs.Lists.{tabulate-length, tabulate-at, first-hit}
 use Rattle.model.proofs.Checks.{within, failIf-pass, failFirst-pass}
-use Rattle.model.proofs.File.{pass-both, GaugePassed, gauge-passes, gauge-shape, wedge-low, read-values}
+use Rattle.model.proofs.File.{pass-both, NumbersPassed, gauge-passes, gauge-shape, wedge-low, read-values}
 
 -- ---- an accepted film passes its tests: the converse of what passed tests say
 
@@ -104,13 +104,13 @@ abs-neg : (n : ℕ) → natAbs (negℤ (pos n)) ≡ n
 abs-neg zero = refl
 abs-neg (suc n) = refl
 
-abs-mul : (x y : ℤ) → natAbs (x *ℤ y) ≡ natAbs x * natAbs y
+pub abs-mul : (x y : ℤ) → natAbs (x *ℤ y) ≡ natAbs x * natAbs y
 abs-mul (pos a) (pos b) = refl
 abs-mul (pos a) (negsuc b) = abs-neg (a * suc b)
 abs-mul (negsuc a) (pos b) = abs-neg (suc a * b)
 abs-mul (negsuc a) (negsuc b) = refl
 
-abs-sub : (a b k : ℕ) → a ≤ k → b ≤ k → natAbs (pos a -ℤ pos b) ≤ k
+pub abs-sub : (a b k : ℕ) → a ≤ k → b ≤ k → natAbs (pos a -ℤ pos b) ≤ k
 abs-sub a b k h l =
     by-order a b
     (λ o. rw (sub-pos a b, sub-lt a b o) (omega arith))
@@ -122,7 +122,7 @@ source-limit w a b h k l = rw (abs-mul w (pos a -ℤ pos b)) (le-trans (mul-le-m
 
 -- ---- a film's numbers that have passed their tests
 
-module _ (g : Gauge) (p : GaugePassed g) where
+module _ (g : Gauge) (p : NumbersPassed g) where
   -- the thicknesses, those of the boundary ring too
   thickness-limits : (r c : ℕ) → (r < g .rows + 2) × (c < g .columns + 2) → (1 ≤ thicknessAt g r c) × (thicknessAt g r c ≤ thicknessLimit)
   thickness-limits r c h =
@@ -154,7 +154,7 @@ module _ (g : Gauge) (p : GaugePassed g) where
   -- the cell with index i
   cell-formed : (i : ℕ) → i < g .rows * g .columns → LimitedCell (formed g) i
   cell-formed i h =
-      let some = gauge-shape g p .columns-some in
+      let some = gauge-shape g (p .shape) .columns-some in
       let row : i / g .columns < g .rows = div-lt-iff-lt-mul some .1 h in
       let column : i % g .columns < g .columns = mod-lt i some in
       let r = i / g .columns + 1 in
@@ -175,9 +175,9 @@ module _ (g : Gauge) (p : GaugePassed g) where
           → P (getD (tabulate (g .rows * g .columns) (byCell g number)) i d)
       at number d P = subst P (sym (tabulate-at (g .rows * g .columns) (byCell g number) d i h))
 
-  sized-formed : Values g → Sized (formed g)
-  sized-formed v =
-      let s = gauge-shape g p in
+  sized-formed : length (g .weights) ≡ cells (g .rows) (g .columns) → Sized (formed g)
+  sized-formed e =
+      let s = gauge-shape g (p .shape) in
       let top = within (g .ceiling) 1 ceilingLimit (failIf-pass _ 5 ceilingOffset (p .ceiling)) in
       record {
         rows-some = s .rows-some;
@@ -186,22 +186,26 @@ module _ (g : Gauge) (p : GaugePassed g) where
         columns-low = s .columns-low;
         ceiling-some = top .0;
         ceiling-low = top .1;
-        weights-len = v .weights-len;
+        weights-len = e;
         diagonals-len = tabulate-length _ _;
         rights-len = tabulate-length _ _;
         ups-len = tabulate-length _ _;
         sources-len = tabulate-length _ _;
       }
 
--- Coefficients formed from a film's numbers that pass their tests are accepted, ..
+  -- Coefficients formed from a film's numbers are within their limits where all tests but that of dominance pass; ..
+  pub formed-limited : length (g .weights) ≡ cells (g .rows) (g .columns) → Limited (formed g)
+  formed-limited e = record { sized = sized-formed e; cell = cell-formed }
+
+-- .. where that one passes too, they are accepted, ..
 pub formed-accepted : (g : Gauge) → Values g → gaugeCheck g true ≡ pass → Accepted (formed g)
 unfolding gaugeDominance notDominant
 formed-accepted g v e =
     let p = gauge-passes g e in
     let n = cells (g .rows) (g .columns) in
-    let none = failFirst-pass (λ i. eqb (getD (g .weights) i 0) 0) n 6 weightOffset (p .weights) in
+    let none = failFirst-pass (λ i. eqb (getD (g .weights) i 0) 0) n 6 weightOffset (p .numbers .weights) in
     record {
-      limited = record { sized = sized-formed g p v; cell = cell-formed g p };
+      limited = formed-limited g (p .numbers) (v .weights-len);
       weight = λ i h. omega (arith, eqb-false (getD (g .weights) i 0) 0 (none i h));
       dominant = failFirst-pass (notDominant (formed g)) n 9 (λ i. i) (p .dominant);
     }

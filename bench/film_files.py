@@ -1,0 +1,201 @@
+#!/usr/bin/env python3
+"""Writes crates/film_files: the film files in data/, their names in args and what the program must print in stdout.
+
+Worked out from document 01 alone, in Python's whole numbers: it shares no line with the program. A film is described by its
+numbers; its file, and the answer to it, are worked out here. The faulty files carry the number and place that document 01's
+table gives for the fault, written beside each one by hand.
+"""
+import os
+import random
+
+CRATE = os.path.join(os.path.dirname(os.path.abspath(__file__)), "..", "crates", "film_files")
+
+
+def field(tag, body):
+    return bytes([tag]) + len(body).to_bytes(2, "big") + body
+
+
+class Film:
+    def __init__(self, rows, columns, ceiling, weights, thicknesses, wedge):
+        self.rows, self.columns, self.ceiling = rows, columns, ceiling
+        self.weights, self.thicknesses, self.wedge = list(weights), list(thicknesses), wedge
+
+    def but(self, **changes):
+        film = Film(self.rows, self.columns, self.ceiling, self.weights, self.thicknesses, self.wedge)
+        film.__dict__.update(changes)
+        return film
+
+    def weight(self, cell, value):
+        return self.but(weights=[value if i == cell else w for i, w in enumerate(self.weights)])
+
+    def thickness(self, i, value):
+        return self.but(thicknesses=[value if j == i else h for j, h in enumerate(self.thicknesses)])
+
+    def file(self):
+        return (
+            field(1, bytes([self.rows, self.columns]))
+            + field(2, self.ceiling.to_bytes(4, "big"))
+            + field(3, b"".join(w.to_bytes(2, "big") for w in self.weights))
+            + field(4, bytes(self.thicknesses))
+            + field(5, self.wedge.to_bytes(4, "big", signed=True))
+        )
+
+    def answer(self):
+        def h(r, c):
+            return self.thicknesses[r * (self.columns + 2) + c]
+
+        def link(r, c, s, d):
+            return (h(r, c) + h(s, d)) ** 3
+
+        diagonals, rights, ups, sources = [], [], [], []
+        for r in range(1, self.rows + 1):
+            for c in range(1, self.columns + 1):
+                diagonals.append(link(r, c, r - 1, c) + link(r, c, r + 1, c) + link(r, c, r, c - 1) + link(r, c, r, c + 1))
+                rights.append(link(r, c, r, c + 1) if c < self.columns else 0)
+                ups.append(link(r, c, r + 1, c) if r < self.rows else 0)
+                sources.append(self.wedge * (h(r, c + 1) - h(r, c - 1)))
+        lines = [f"FILM {self.rows} {self.columns} {self.ceiling} {self.wedge}"]
+        for name, numbers in (("DIAGONALS", diagonals), ("RIGHTS", rights), ("UPS", ups), ("SOURCES", sources)):
+            lines.append(" ".join([name, *map(str, numbers)]))
+        return lines + ["WRITES BACK THE SAME"]
+
+
+def around(film, r, c):
+    """The links of a cell, each with the weight on its other end: 0 on the ring."""
+    def h(s, d):
+        return film.thicknesses[s * (film.columns + 2) + d]
+
+    for s, d in ((r - 1, c), (r + 1, c), (r, c - 1), (r, c + 1)):
+        inside = 1 <= s <= film.rows and 1 <= d <= film.columns
+        yield (h(r, c) + h(s, d)) ** 3, film.weights[(s - 1) * film.columns + d - 1] if inside else 0
+
+
+def cells(film):
+    return [(r, c) for r in range(1, film.rows + 1) for c in range(1, film.columns + 1)]
+
+
+def made(rows, columns, ceiling, wedge, seed, thicknesses=lambda draw: draw.randint(1, 128)):
+    """A film with drawn thicknesses. Its weights are steps of 64 to the ring, so to speak: each cell's is 64 above the mean of
+    its neighbours', links counted."""
+    draw = random.Random(seed)
+    film = Film(rows, columns, ceiling, [0.0] * (rows * columns), [thicknesses(draw) for _ in range((rows + 2) * (columns + 2))], wedge)
+    for _ in range(1000):
+        for i, (r, c) in enumerate(cells(film)):
+            links = list(around(film, r, c))
+            film.weights[i] = 64 + sum(k * w for k, w in links) / sum(k for k, _ in links)
+    return film.but(weights=[round(w) for w in film.weights])
+
+
+F = Film(1, 2, 100, [1, 1], [1, 1, 1, 1, 3, 2, 1, 1, 1, 1, 1, 1], 100)
+THREE = made(3, 3, 5000, -12345, 3)
+FILE = F.file()
+assert FILE.hex() == "0100020102" "02000400000064" "03000400010001" "04000c010101010302010101010101" "05000400000064"
+
+
+def put(file, at, *values):
+    return file[:at] + bytes(values) + file[at + len(values):]
+
+
+# film F's fields are at 0, 5, 12, 19 and 34; its weights from 15, its thicknesses from 22, its wedge number at 37
+VALID = [
+    ("f", F),
+    ("wedge_zero", F.but(wedge=0)),
+    ("wedge_down", F.but(wedge=-100)),
+    ("wedge_most", F.but(wedge=1_000_000_000)),
+    ("wedge_least", F.but(wedge=-1_000_000_000)),
+    ("ceiling_least", F.but(ceiling=1)),
+    ("ceiling_most", F.but(ceiling=16_777_216)),
+    ("one_cell", made(1, 1, 7, 3, 1).weight(0, 65_535)),
+    ("row", made(1, 32, 16_777_216, 999, 2)),
+    ("column", made(32, 1, 65_536, -1, 4)),
+    ("three", THREE),
+    ("thick", made(4, 5, 1000, 1_000_000_000, 5, thicknesses=lambda draw: 128)),
+    ("thin", made(2, 2, 255, 256, 6, thicknesses=lambda draw: 1)),
+    ("even", made(2, 3, 256, 255, 7, thicknesses=lambda draw: draw.randint(60, 64))),
+    ("largest", made(32, 32, 100_000, -65_537, 8)),
+]
+
+REFUSED = [
+    ("empty", b"", 1, 0),  # document 01
+    ("header_cut", FILE[:2], 1, 2),
+    ("shape_cut", FILE[:4], 1, 4),
+    ("second_header_cut", FILE[:6], 1, 6),
+    ("weights_cut", FILE[:17], 1, 17),
+    ("last_header_missing", FILE[:34], 1, 34),
+    ("last_byte_missing", FILE[:-1], 1, 40),  # document 01
+    ("byte_more", FILE + b"\0", 2, 41),  # document 01
+    ("file_twice", FILE + FILE, 2, 41),
+    ("first_tag", put(FILE, 0, 2), 2, 0),
+    ("second_tag", put(FILE, 5, 3), 2, 5),
+    ("unknown_tag", put(FILE, 12, 255), 2, 12),
+    ("tag_zero", put(FILE, 34, 0), 2, 34),
+    ("shape_length", put(FILE, 2, 3), 3, 0),
+    ("ceiling_length", put(FILE, 7, 5), 3, 5),
+    ("length_little_endian", put(FILE, 6, 4, 0), 3, 5),
+    ("weights_length", put(FILE, 14, 6), 3, 12),
+    ("thicknesses_length", put(FILE, 21, 13), 3, 19),
+    ("wedge_length", put(FILE, 36, 2), 3, 34),
+    ("rows_zero", put(FILE, 3, 0), 4, 3),
+    ("rows_33", put(FILE, 3, 33), 4, 3),
+    ("columns_zero", put(FILE, 4, 0), 4, 4),
+    ("columns_33", put(FILE, 4, 33), 4, 4),  # document 01
+    ("ceiling_zero", F.but(ceiling=0).file(), 5, 8),
+    ("ceiling_above", F.but(ceiling=16_777_217).file(), 5, 8),
+    ("ceiling_all_ones", F.but(ceiling=2 ** 32 - 1).file(), 5, 8),
+    ("first_weight", F.weight(0, 0).file(), 6, 15),
+    ("second_weight", F.weight(1, 0).file(), 6, 17),
+    ("last_weight_of_three", THREE.weight(8, 0).file(), 6, 15 + 2 * 8),
+    ("thickness_zero", F.thickness(5, 0).file(), 7, 22 + 5),
+    ("thickness_129", F.thickness(6, 129).file(), 7, 22 + 6),
+    ("first_corner", F.thickness(0, 0).file(), 7, 22),
+    ("last_corner", F.thickness(11, 255).file(), 7, 22 + 11),
+    ("last_corner_of_three", THREE.thickness(24, 0).file(), 7, 15 + 2 * 9 + 3 + 24),
+    ("wedge_above", F.but(wedge=1_000_000_001).file(), 8, 37),
+    ("wedge_below", F.but(wedge=-1_000_000_001).file(), 8, 37),
+    ("wedge_of_three", THREE.but(wedge=2 ** 31 - 1).file(), 8, 15 + 2 * 9 + 3 + 25 + 3),
+    # the weighted row sum of cell 0 is 206 w0 - 27 w1, that of cell 1 is 51 w1 - 27 w0
+    ("unheld_first", F.weight(1, 8).file(), 9, 0),
+    ("unheld_second", F.weight(0, 2).file(), 9, 1),
+    # two faults at once: the one that is tested first
+    ("rows_and_columns", put(FILE, 3, 0, 33), 4, 3),
+    ("shape_before_its_absence_later", put(FILE, 3, 33)[:20], 4, 3),
+    ("ceiling_before_weight", F.but(ceiling=0).weight(0, 0).file(), 5, 8),
+    ("weight_before_cut", F.weight(0, 0).file()[:-1], 6, 15),
+    ("two_weights", F.weight(0, 0).weight(1, 0).file(), 6, 15),
+    ("weight_before_thickness", F.weight(1, 0).thickness(0, 0).file(), 6, 17),
+    ("two_thicknesses", F.thickness(3, 0).thickness(2, 200).file(), 7, 24),
+    ("thickness_before_tag", put(F.thickness(11, 0).file(), 34, 9), 7, 33),
+    ("tag_before_length", put(FILE, 12, 9, 9, 9), 2, 12),
+    ("length_before_cut", put(FILE, 36, 9)[:-1], 3, 34),
+    ("wedge_before_stray", F.but(wedge=1_000_000_001).file() + b"\0", 8, 37),
+    ("wedge_before_unheld", F.weight(1, 8).but(wedge=-1_000_000_001).file(), 8, 37),
+    ("stray_before_unheld", F.weight(1, 8).file() + b"\5", 2, 41),
+]
+
+
+def holds(film):
+    """No weighted row sum is below 1."""
+    return all(
+        sum(k * (film.weights[i] - w) for k, w in around(film, r, c)) >= 1 for i, (r, c) in enumerate(cells(film))
+    )
+
+
+def main():
+    os.makedirs(os.path.join(CRATE, "data"), exist_ok=True)
+    names, lines = [], []
+    for name, film in VALID:
+        if not holds(film):
+            raise SystemExit(f"{name} is no valid film")
+    for name, file, answer in [(n, f.file(), f.answer()) for n, f in VALID] + [(n, f, [f"REFUSED {k} {p}"]) for n, f, k, p in REFUSED]:
+        names.append(name)
+        lines += [name, *answer]
+        with open(os.path.join(CRATE, "data", name), "wb") as out:
+            out.write(file)
+    assert len(set(names)) == len(names)
+    with open(os.path.join(CRATE, "args"), "w") as out:
+        out.write("".join(name + "\n" for name in names))
+    with open(os.path.join(CRATE, "stdout"), "w") as out:
+        out.write("".join(line + "\n" for line in lines))
+
+
+main()

@@ -1,0 +1,35 @@
+-- What a field's tag and a film's shape say of lengths.
+use mathlib.Core.Path.{_≡_}
+use mathlib.Core.Bool.{Bool, true, false, cond}
+use Prim.Native.Nat.{ℕ, _+_, _≤_}
+use native.Mathlib.Nat.{mul-le-mul}
+use native.Mathlib.Omega.{arith}
+use borrow.Author.Tests.{le-ltb}
+use lib.Dec.{eqb}
+use Rattle.model.specs.Limits.{sideLimit}
+use Rattle.model.specs.File.{cells, ringed, endOffset}
+use Rattle.file.specs.Tags.{bodyLength, fileLength}
+
+either-low : (b : Bool) {x y k : ℕ} → x ≤ k → y ≤ k → cond b x y ≤ k
+either-low true h l = h
+either-low false h l = l
+
+pub body-low : (tag n t : ℕ) → n ≤ 1024 → t ≤ 1156 → bodyLength tag n t ≤ 4096
+body-low tag n t h l =
+    either-low (eqb tag 1) (omega arith) (either-low (eqb tag 2) (omega arith) (either-low (eqb tag 3) (omega arith)
+    (either-low (eqb tag 4) (omega arith) (either-low (eqb tag 5) (omega arith) (omega arith)))))
+
+-- a film's cells and thicknesses are at most 1,024 and 1,156
+pub cells-low : (rows columns : ℕ) → rows ≤ sideLimit → columns ≤ sideLimit → cells rows columns ≤ 1024
+cells-low rows columns h l = mul-le-mul h l
+
+pub ringed-low : (rows columns : ℕ) → rows ≤ sideLimit → columns ≤ sideLimit → ringed rows columns ≤ 1156
+ringed-low rows columns h l =
+    let r : rows + 2 ≤ 34 = omega arith in
+    let c : columns + 2 ≤ 34 = omega arith in
+    mul-le-mul r c
+
+pub length-known : (rows columns : ℕ) → rows ≤ sideLimit → columns ≤ sideLimit
+    → fileLength rows columns ≡ endOffset (cells rows columns) (ringed rows columns)
+unfolding fileLength
+length-known rows columns h l = rw (le-ltb sideLimit rows h, le-ltb sideLimit columns l)

@@ -1,0 +1,65 @@
+-- `file::file_length` meets its contract.
+
+-- `file::file_length` meets its contract.
+use mathlib.Core.Path.{sym}
+use Prim.Native.Nat.{_≤_}
+use native.Mathlib.Omega.{arith}
+use borrow.Author.Tests.{ltb-false}
+use lib.Dec.{ltb}
+use Rattle.model.specs.Limits.{sideLimit}
+use Rattle.model.proofs.Checks.{or-parts}
+use Rattle.file.specs.Tags.{fileLength}
+use Rattle.file.proofs.Tags.{cells-low, ringed-low, length-known}
+use borrow.Author.Needs.{needs}
+use Rattle.file.proofs.file_length.Statement.{statement}
+use Rattle.file.proofs.file_length.Tie as tie
+
+low : (c : tie.Else1) → (c .before .args .rows ≤ sideLimit) × (c .before .args .columns ≤ sideLimit)
+low c =
+    let a = c .before .args in
+    let p = or-parts (ltb sideLimit (a .rows)) (ltb sideLimit (a .columns)) (c .if1 .left) in
+    (ltb-false _ _ (p .0), ltb-false _ _ (p .1))
+
+returns : tie.Need-returns
+unfolding fileLength
+returns c = rw (c .if1 .taken)
+
+area-requires : tie.Need-area-requires
+area-requires c κs = search needs
+
+mul-result : tie.Need-mul-result
+mul-result c = let l = low (c .before) in omega (arith, cells-low _ _ (l .0) (l .1), c .area .ensures)
+
+add-result : tie.Need-add-result
+add-result c = let l = low (c .before) in omega (arith, cells-low _ _ (l .0) (l .1), c .area .ensures)
+
+add-area : tie.Need-add-area
+add-area c = let l = low (c .before) in omega (arith, l .0)
+
+add-area-2 : tie.Need-add-area-2
+add-area-2 c = let l = low (c .before) in omega (arith, l .1)
+
+area-requires-2 : tie.Need-area-requires-2
+area-requires-2 c κs = search needs
+
+add-result-2 : tie.Need-add-result-2
+add-result-2 c =
+    let l = low (c .before .before) in
+    omega (arith, cells-low _ _ (l .0) (l .1), ringed-low _ _ (l .0) (l .1), c .before .area .ensures, c .area2 .ensures)
+
+returns-2 : tie.Need-returns-2
+returns-2 c = let l = low (c .before .before) in rw (c .before .area .ensures, c .area2 .ensures) (sym (length-known _ _ (l .0) (l .1)))
+
+pub file-length-spec : {M : Type 1} → statement M
+file-length-spec =
+    tie.close
+    (tie.spec
+    returns
+    area-requires
+    mul-result
+    add-result
+    add-area
+    add-area-2
+    area-requires-2
+    add-result-2
+    returns-2)

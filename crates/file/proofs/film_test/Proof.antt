@@ -1,0 +1,59 @@
+-- `file::film_test` meets its contract.
+
+-- `file::film_test` meets its contract.
+
+use mathlib.Core.Path.{_≡_}
+use native.Mathlib.Omega.{arith}
+use denote.Ref.{now}
+use mir.Facts.{toZ-ofZ}
+use Rattle.model.specs.Refusals.{checkOf}
+use Rattle.model.specs.File.{rowsOffset, columnsOffset}
+use Rattle.model.specs.FileCalls.{gaugeOf}
+use Rattle.checks.proofs.Chain.{passed, goes-on, refuses}
+use Rattle.file.specs.Reading.{restCheck}
+use Rattle.file.proofs.Tags.{cells-low, ringed-low}
+use Rattle.file.proofs.Calls.{sides-low, rest-numbered}
+use borrow.Author.Needs.{needs}
+use Rattle.file.proofs.film_test.Statement.{statement}
+use Rattle.file.proofs.film_test.Tie as tie
+
+-- what the tests of the fields after the shape find
+rest-is : (c : tie.After-rest-test) → let a = c .before .before .before .before .args in
+    checkOf (c .rest-test .result)
+    ≡ restCheck (now (a .file)) (gaugeOf (a .head) (now (a .weights)) (now (a .thicknesses)) (a .wedge))
+rest-is c = rw (toZ-ofZ (c .before .before .before .before .fits .wedge)) at (c .rest-test .ensures)
+
+rest-test-requires : tie.Need-rest-test-requires
+rest-test-requires c κs =
+    let s = c .before .before .before in
+    let h = s .args .head in
+    let low = sides-low (h .rows) (h .columns) rowsOffset columnsOffset (s .pre .shape) in (
+      omega (arith, s .pre .weights-len, cells-low (h .rows) (h .columns) (low .0) (low .1)),
+      omega (arith, s .pre .thicknesses-len, ringed-low (h .rows) (h .columns) (low .0) (low .1)),
+    )
+
+enum-told : tie.Need-enum-told
+enum-told c = search needs
+
+dominance-test-requires : tie.Need-dominance-test-requires
+dominance-test-requires c κs =
+    let t = c .before .before in
+    let s = t .before .before .before .before in
+    let e = passed (rest-is t) (c .enum-told .given .1) in
+    rw (toZ-ofZ (s .fits .wedge)) (rest-numbered (now (s .args .file)) _ (s .pre) e)
+
+enum-known-r : tie.Need-enum-known-r
+enum-known-r c = search needs
+
+returns : tie.Need-returns
+returns c =
+    let t = c .before .before .before in
+    goes-on (rest-is t) (c .before .enum-told .given .1) (rw (toZ-ofZ (t .before .before .before .before .fits .wedge)) at (c .dominance-test .ensures))
+
+returns-2 : tie.Need-returns-2
+returns-2 c = refuses (rest-is (c .before .before .before)) _ (c .before .r .given .1)
+
+pub film-test-spec : {M : Type 1} → statement M
+film-test-spec =
+    tie.close
+    (tie.spec rest-test-requires enum-told dominance-test-requires enum-known-r returns returns-2)

@@ -1,0 +1,67 @@
+-- `file::put::put_bytes` meets its contract.
+use mathlib.Core.Path.{_≡_, sym, ap}
+use Prim.Native.Nat.{_+_}
+use denote.Ref.{now}
+use lib.ListN.{take}
+use lib.Seq.{length-take-le}
+use mathlib.Core.Path.{refl}
+use Prim.Native.Nat.{_-_}
+use native.Mathlib.Omega.{arith}
+use lib.ListN.{length}
+use borrow.Author.Needs.{needs}
+use Rattle.file.proofs.Stores.{Put, put-none, put-more, put-all}
+use Rattle.file.proofs.put.put_bytes.Statement.{statement}
+use Rattle.file.proofs.put.put_bytes.Tie as tie
+
+abbrev Inv-loop : tie.InvT-loop
+Inv-loop out₀ at bytes i₀ out i = Put (λ l. l) bytes at out₀ i out
+
+abbrev μ-loop : tie.MeasureT-loop
+μ-loop out₀ at bytes i₀ out i = length bytes - i
+
+loop-holds : tie.Need-loop-holds Inv-loop μ-loop
+loop-holds c = put-none refl
+
+shared-slice-read-out : tie.Need-shared-slice-read-out Inv-loop μ-loop
+shared-slice-read-out c = search needs
+
+add-out : tie.Need-add-out Inv-loop μ-loop
+add-out c = search needs
+
+slice-write-out : tie.Need-slice-write-out Inv-loop μ-loop
+slice-write-out c = omega (arith, c .before .before .loop .inv .len)
+
+add-i : tie.Need-add-i Inv-loop μ-loop
+add-i c = search needs
+
+loop-less : tie.Need-loop-less Inv-loop μ-loop
+loop-less c = search needs
+
+loop-again : tie.Need-loop-again Inv-loop μ-loop
+loop-again c =
+    let l = c .before .before in
+    let e : l .before .args .at + l .loop .i ≡ l .before .args .at + length (take (l .loop .i) (now (l .before .args .bytes))) =
+    ap (λ n. l .before .args .at + n) (sym (length-take-le (l .loop .i) (now (l .before .args .bytes)) (l .loop .inv .within))) in
+    put-more (c .before .loop-test .taken) refl e (l .loop .inv) refl
+
+same-length : tie.Need-same-length Inv-loop μ-loop
+same-length c = c .before .loop .inv .len
+
+returns : tie.Need-returns Inv-loop μ-loop
+returns c = put-all (c .loop-test .left) (c .before .loop .inv)
+
+pub put-bytes-spec : {M : Type 1} → statement M
+put-bytes-spec =
+    tie.close
+    (tie.spec
+    Inv-loop
+    μ-loop
+    loop-holds
+    shared-slice-read-out
+    add-out
+    slice-write-out
+    add-i
+    loop-less
+    loop-again
+    same-length
+    returns)

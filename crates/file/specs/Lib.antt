@@ -1,0 +1,3 @@
+-- What the contracts cite beside the model.
+pub mod Tags
+pub mod Reading

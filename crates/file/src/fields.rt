@@ -1,0 +1,115 @@
+// The fields of a file, tag, length and body: their tests, the numbers in their bodies, and how they are written.
+ghost use mathlib.Core.Path.{_≡_};
+ghost use mathlib.Core.List.{[], _∷_};
+ghost use Prim.Native.Nat.{_+_, _*_, _≤_};
+ghost use lib.ListN.{length, take};
+ghost use lib.Seq.{sets};
+ghost use Rattle.model.specs.Lists.{tabulate};
+ghost use Rattle.model.specs.Refusals.{checkOf};
+ghost use Rattle.model.specs.Bytes.{byteAt, wordAt, long};
+ghost use Rattle.model.specs.File.{weightOffset, fieldAt, field as fieldOf, weightBytes};
+ghost use Rattle.file.specs.Tags.{bodyLength};
+use model::Fault;
+use model::Tested;
+
+// The length of a field's body, for n cells and t thicknesses: each tag has one. Other tags have none.
+fn body_length(tag: u8, n: usize, t: usize) -> usize
+    requires { ⌜ n ≤ 1024 ⌝ }
+    ensures { λ r. ⌜ r ≡ bodyLength tag n t ⌝ }
+{
+    match tag {
+        1 => 2,
+        2 => 4,
+        3 => 2 * n,
+        4 => t,
+        5 => 4,
+        0 | 6..=255 => 0,
+    }
+}
+
+// Refusals 1, 2 and 3: a header at `at`, with that tag and that length, and the whole body after it.
+pub fn field_at(file: &[u8], at: usize, tag: u8, size: usize) -> Tested
+    requires { ⌜ (at ≤ 4096) × (size ≤ 4096) ⌝ }
+    ensures { λ r. ⌜ checkOf r ≡ fieldAt (now (file .entry)) at tag size ⌝ }
+{
+    let end = file.len();
+    let found = crate::numbers::byte_at(file, at);
+    let length = crate::numbers::word_at(file, at + 1) as usize;
+    let header = checks::fail_if(end < at + 3, Fault::Truncated, end);
+    let stray = checks::fail_if(found != tag, Fault::Unexpected, at);
+    let misfit = checks::fail_if(length != size, Fault::WrongLength, at);
+    let body = checks::fail_if(end < at + 3 + size, Fault::Truncated, end);
+    checks::or_else(
+        header,
+        checks::or_else(stray, checks::or_else(misfit, body)),
+    )
+}
+
+// The field with a tag at an offset, in the file of a film with n cells and t thicknesses.
+pub fn field(file: &[u8], at: usize, tag: u8, n: usize, t: usize) -> Tested
+    requires { ⌜ (at ≤ 4096) × (n ≤ 1024) × (t ≤ 1156) ⌝ }
+    ensures { λ r. ⌜ checkOf r ≡ fieldAt (now (file .entry)) at tag (bodyLength tag n t) ⌝ }
+{
+    field_at(file, at, tag, body_length(tag, n, t))
+}
+
+// The weights that stand in a file, into the first n places of a table.
+pub fn weights_in(file: &[u8], n: usize, weights: &mut [u16])
+    requires { ⌜ (n ≤ length (now weights)) × (n ≤ 1024) ⌝ }
+    ensures { λ r. ⌜ take n (now (weights .exit)) ≡ tabulate n (λ i. wordAt (now (file .entry)) (weightOffset i)) ⌝ }
+{
+    let mut i = 0;
+    while i < n {
+        weights[i] = crate::numbers::word_at(file, 15 + 2 * i);
+        i += 1;
+    }
+}
+
+// The n bytes that begin at an offset, into the first places of a table.
+pub fn bytes_in(file: &[u8], from: usize, n: usize, bytes: &mut [u8])
+    requires { ⌜ (n ≤ length (now bytes)) × (n ≤ 4096) × (from ≤ 4096) ⌝ }
+    ensures { λ r. ⌜ take n (now (bytes .exit)) ≡ tabulate n (λ j. byteAt (now (file .entry)) (from + j)) ⌝ }
+{
+    let mut j = 0;
+    while j < n {
+        bytes[j] = crate::numbers::byte_at(file, from + j);
+        j += 1;
+    }
+}
+
+// The field of the shape, at the start of a file.
+pub fn put_shape(out: &mut [u8], rows: u32, columns: u32)
+    requires { ⌜ (5 ≤ length (now out)) × (rows ≤ 255) × (columns ≤ 255) ⌝ }
+    ensures { λ r. ⌜ now (out .exit) ≡ sets (now (out .entry)) 0 (fieldOf 1 2 (rows ∷ columns ∷ [])) ⌝ }
+{
+    crate::put::put_header(out, 0, 1, 2);
+    out[3] = rows as u8;
+    out[4] = columns as u8;
+}
+
+// The field of one number of four bytes.
+pub fn put_number(out: &mut [u8], at: usize, tag: u8, n: u32)
+    requires { ⌜ at + 7 ≤ length (now out) ⌝ }
+    ensures { λ r. ⌜ now (out .exit) ≡ sets (now (out .entry)) at (fieldOf tag 4 (long n)) ⌝ }
+{
+    crate::put::put_header(out, at, tag, 4);
+    crate::put::put_long(out, at + 3, n);
+}
+
+// The field of the weights.
+pub fn put_weights(out: &mut [u8], at: usize, weights: &[u16])
+    requires { ⌜ (at + 3 + 2 * length (now weights) ≤ length (now out)) × (length (now weights) ≤ 1024) ⌝ }
+    ensures { λ r. ⌜ now (out .exit) ≡ sets (now (out .entry)) at (fieldOf 3 (2 * length (now (weights .entry))) (weightBytes (now (weights .entry)))) ⌝ }
+{
+    crate::put::put_header(out, at, 3, 2 * (weights.len() as u32));
+    crate::put::put_weights(out, at + 3, weights);
+}
+
+// The field of the thicknesses.
+pub fn put_thicknesses(out: &mut [u8], at: usize, thicknesses: &[u8])
+    requires { ⌜ (at + 3 + length (now thicknesses) ≤ length (now out)) × (length (now thicknesses) ≤ 1156) ⌝ }
+    ensures { λ r. ⌜ now (out .exit) ≡ sets (now (out .entry)) at (fieldOf 4 (length (now (thicknesses .entry))) (now (thicknesses .entry))) ⌝ }
+{
+    crate::put::put_header(out, at, 4, thicknesses.len() as u32);
+    crate::put::put_bytes(out, at + 3, thicknesses);
+}

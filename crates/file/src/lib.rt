@@ -1,0 +1,182 @@
+// The film file's reader and writer. They ask nothing of their caller: each tests its input first, in document 01's order, and a
+// refused call changes nothing.
+//
+// Proved: the reader's whole answer and both lent buffers, and the writer's answer and the lent slice, are those of crate `model`
+// (Loads, saveCall). With model/proofs/File: what is written reads back, and what was read is written back.
+ghost use mathlib.Core.Path.{_≡_};
+ghost use Prim.Native.Nat.{_≤_};
+ghost use lib.ListN.{length};
+ghost use Rattle.model.specs.Refusals.{checkOf, pass, _orElse_};
+ghost use Rattle.model.specs.Checks.{shapeCheck};
+ghost use Rattle.model.specs.Result.{Gives};
+ghost use Rattle.model.specs.Bytes.{byteAt};
+ghost use Rattle.model.specs.File.{rowsOffset, columnsOffset, fieldAt, gaugeIn, fileOf};
+ghost use Rattle.model.specs.FileCalls.{gaugeOf, headOf, saveCall, saveAnswerOf, Loads, loadAnswerOf};
+ghost use Rattle.gauge.specs.Tests.{Measured};
+ghost use Rattle.file.specs.Tags.{fileLength, Ready};
+ghost use Rattle.file.specs.Reading.{valueCheck, fieldTest, restCheck, filmIn, LoadsBy};
+use model::Fault;
+use model::Head;
+use model::Loaded;
+use model::Saved;
+use model::Tested;
+
+mod numbers; // numbers.rt: numbers at an offset of a file
+mod put; // put.rt: numbers written into a slice
+mod fields; // fields.rt: a file's fields
+
+// The length of the file of a film with so many rows and columns; 0 if a side is beyond its limit.
+fn file_length(rows: u32, columns: u32) -> usize
+    ensures { λ r. ⌜ r ≡ fileLength rows columns ⌝ }
+{
+    if (32 < rows) | (32 < columns) {
+        return 0;
+    }
+    25 + 2 * checks::area(rows, columns) + checks::area(rows + 2, columns + 2)
+}
+
+// Writes a film's file, field by field.
+fn put_film(head: Head, weights: &[u16], thicknesses: &[u8], wedge: i32, out: &mut [u8])
+    requires { ⌜ Ready (gaugeOf head (now weights) (now thicknesses) wedge) (now out) ⌝ }
+    ensures { λ r. ⌜ now (out .exit) ≡ fileOf (gaugeOf head (now (weights .entry)) (now (thicknesses .entry)) wedge) ⌝ }
+{
+    let n = weights.len();
+    let t = thicknesses.len();
+    fields::put_shape(out, head.rows, head.columns);
+    fields::put_number(out, 5, 2, head.ceiling);
+    fields::put_weights(out, 12, weights);
+    fields::put_thicknesses(out, 15 + 2 * n, thicknesses);
+    fields::put_number(out, 18 + 2 * n + t, 5, numbers::unsigned(wedge));
+}
+
+// Writes the film file of a film's numbers into a lent slice of exactly its length.
+pub fn write(head: Head, weights: &[u16], thicknesses: &[u8], wedge: i32, out: &mut [u8]) -> Saved
+    ensures { λ r. ⌜ Gives (saveCall (gaugeOf head (now (weights .entry)) (now (thicknesses .entry)) wedge) (now (out .entry))) (saveAnswerOf r) (now (out .exit)) ⌝ }
+{
+    let fits = out.len() == file_length(head.rows, head.columns);
+    match gauge::gauge_tests(head, weights, thicknesses, wedge, fits) {
+        Tested::Fine => {
+            put_film(head, weights, thicknesses, wedge, out);
+            Saved::Written
+        }
+        Tested::Refused(r) => Saved::Refused(r),
+    }
+}
+
+// The shape and the ceiling that stand in a file.
+fn head_in(file: &[u8]) -> Head
+    ensures { λ r. ⌜ r ≡ headOf (gaugeIn (now (file .entry))) ⌝ }
+{
+    Head {
+        rows: numbers::byte_at(file, 3) as u32,
+        columns: numbers::byte_at(file, 4) as u32,
+        ceiling: numbers::long_at(file, 8),
+    }
+}
+
+// The field of the shape. It comes before all others, since it says how many weights and thicknesses there are.
+fn shape_field(file: &[u8]) -> Tested
+    ensures { λ r. ⌜ checkOf r ≡ (fieldAt (now (file .entry)) 0 1 2 orElse shapeCheck (byteAt (now (file .entry)) rowsOffset) rowsOffset (byteAt (now (file .entry)) columnsOffset) columnsOffset) ⌝ }
+{
+    let header = fields::field(file, 0, 1, 0, 0);
+    let rows = numbers::byte_at(file, 3) as u32;
+    let columns = numbers::byte_at(file, 4) as u32;
+    checks::or_else(header, gauge::shape_test(rows, columns))
+}
+
+// The values of a field's body: which test they have to pass depends on the tag. The shape has been tested before.
+fn value_test(tag: u8, head: Head, weights: &[u16], thicknesses: &[u8], wedge: i32) -> Tested
+    requires { ⌜ (length (now weights) ≤ 1024) × (length (now thicknesses) ≤ 1156) ⌝ }
+    ensures { λ r. ⌜ checkOf r ≡ valueCheck tag (gaugeOf head (now (weights .entry)) (now (thicknesses .entry)) wedge) ⌝ }
+{
+    match tag {
+        2 => gauge::ceiling_test(head.ceiling),
+        3 => gauge::weights_test(weights),
+        4 => gauge::thicknesses_test(thicknesses, weights.len()),
+        5 => gauge::wedge_test(wedge, 21 + 2 * weights.len() + thicknesses.len()),
+        0 | 1 | 6..=255 => Tested::Fine,
+    }
+}
+
+// A field with its values.
+fn field_test(
+    file: &[u8],
+    at: usize,
+    tag: u8,
+    head: Head,
+    weights: &[u16],
+    thicknesses: &[u8],
+    wedge: i32,
+) -> Tested
+    requires { ⌜ (at ≤ 4096) × (length (now weights) ≤ 1024) × (length (now thicknesses) ≤ 1156) ⌝ }
+    ensures { λ r. ⌜ checkOf r ≡ fieldTest (now (file .entry)) at tag (gaugeOf head (now (weights .entry)) (now (thicknesses .entry)) wedge) ⌝ }
+{
+    let header = fields::field(file, at, tag, weights.len(), thicknesses.len());
+    checks::or_else(header, value_test(tag, head, weights, thicknesses, wedge))
+}
+
+// The fields after the shape, each with its values; and that nothing follows them.
+fn rest_test(file: &[u8], head: Head, weights: &[u16], thicknesses: &[u8], wedge: i32) -> Tested
+    requires { ⌜ (length (now weights) ≤ 1024) × (length (now thicknesses) ≤ 1156) ⌝ }
+    ensures { λ r. ⌜ checkOf r ≡ restCheck (now (file .entry)) (gaugeOf head (now (weights .entry)) (now (thicknesses .entry)) wedge) ⌝ }
+{
+    let n = weights.len();
+    let t = thicknesses.len();
+    let end = 25 + 2 * n + t;
+    let second = field_test(file, 5, 2, head, weights, thicknesses, wedge);
+    let third = field_test(file, 12, 3, head, weights, thicknesses, wedge);
+    let fourth = field_test(file, 15 + 2 * n, 4, head, weights, thicknesses, wedge);
+    let fifth = field_test(file, 18 + 2 * n + t, 5, head, weights, thicknesses, wedge);
+    let stray = checks::fail_if(end < file.len(), Fault::Unexpected, end);
+    checks::or_else(
+        checks::or_else(second, third),
+        checks::or_else(checks::or_else(fourth, fifth), stray),
+    )
+}
+
+// All tests after that of the shape's field: dominance comes last.
+fn film_test(file: &[u8], head: Head, weights: &[u16], thicknesses: &[u8], wedge: i32) -> Tested
+    requires { ⌜ Measured (gaugeOf head (now weights) (now thicknesses) wedge) ⌝ }
+    ensures { λ r. ⌜ checkOf r ≡ filmIn (now (file .entry)) (gaugeOf head (now (weights .entry)) (now (thicknesses .entry)) wedge) ⌝ }
+{
+    match rest_test(file, head, weights, thicknesses, wedge) {
+        Tested::Fine => gauge::dominance_test(head, weights, thicknesses, wedge),
+        Tested::Refused(r) => Tested::Refused(r),
+    }
+}
+
+// Reads a file whose shape has passed its tests: into tables of its own, and from there into the lent buffers once all tests have passed.
+fn read_shaped(file: &[u8], weights: &mut [u16], thicknesses: &mut [u8]) -> Loaded
+    requires { ⌜ shapeCheck (byteAt (now file) rowsOffset) rowsOffset (byteAt (now file) columnsOffset) columnsOffset ≡ pass ⌝ }
+    requires { ⌜ (length (now weights) ≡ 1024) × (length (now thicknesses) ≡ 1156) ⌝ }
+    ensures { λ r. ⌜ LoadsBy (filmIn (now (file .entry)) (gaugeIn (now (file .entry)))) (gaugeIn (now (file .entry))) (now (weights .entry)) (now (thicknesses .entry)) (loadAnswerOf r) (now (weights .exit)) (now (thicknesses .exit)) ⌝ }
+{
+    let head = head_in(file);
+    let n = checks::area(head.rows, head.columns);
+    let t = checks::area(head.rows + 2, head.columns + 2);
+    let mut words = [0u16; 1024];
+    let mut bytes = [0u8; 1156];
+    fields::weights_in(file, n, &mut words);
+    fields::bytes_in(file, 18 + 2 * n, t, &mut bytes);
+    let wedge = numbers::signed(numbers::long_at(file, 21 + 2 * n + t));
+    match film_test(file, head, &words[..n], &bytes[..t], wedge) {
+        Tested::Fine => {
+            put::put_words(weights, &words[..n]);
+            put::put_bytes(thicknesses, 0, &bytes[..t]);
+            Loaded::Film(head, wedge)
+        }
+        Tested::Refused(r) => Loaded::Refused(r),
+    }
+}
+
+// Reads a film file into lent buffers of 1,024 weights and 1,156 thicknesses; places beyond those used keep their contents.
+pub fn read(file: &[u8], weights: &mut [u16], thicknesses: &mut [u8]) -> Loaded
+    ensures { λ r. ⌜ Loads (now (file .entry)) (now (weights .entry)) (now (thicknesses .entry)) (loadAnswerOf r) (now (weights .exit)) (now (thicknesses .exit)) ⌝ }
+{
+    let fits = (weights.len() == 1024) & (thicknesses.len() == 1156);
+    let buffers = checks::fail_if(!fits, Fault::WrongBuffer, 0);
+    match checks::or_else(buffers, shape_field(file)) {
+        Tested::Fine => read_shaped(file, weights, thicknesses),
+        Tested::Refused(r) => Loaded::Refused(r),
+    }
+}

@@ -1,0 +1,48 @@
+// Numbers of 1, 2 and 4 bytes at an offset of a file, big-endian, and signed ones in two's complement.
+// As in model/specs/Bytes, a byte past the file's end counts as 0: what a cut-short file lacks is read as 0, and the tests of its
+// fields refuse it.
+ghost use mathlib.Core.Path.{_≡_};
+ghost use Prim.Native.Nat.{_≤_};
+ghost use Rattle.model.specs.Bytes.{byteAt, wordAt, longAt, signedOf, unsignedOf};
+
+pub fn byte_at(file: &[u8], at: usize) -> u8
+    ensures { λ r. ⌜ r ≡ byteAt (now (file .entry)) at ⌝ }
+{
+    if at < file.len() {
+        return file[at];
+    }
+    0
+}
+
+pub fn word_at(file: &[u8], at: usize) -> u16
+    requires { ⌜ at ≤ 65536 ⌝ }
+    ensures { λ r. ⌜ r ≡ wordAt (now (file .entry)) at ⌝ }
+{
+    (byte_at(file, at) as u16) * 256 + (byte_at(file, at + 1) as u16)
+}
+
+pub fn long_at(file: &[u8], at: usize) -> u32
+    requires { ⌜ at ≤ 32768 ⌝ }
+    ensures { λ r. ⌜ r ≡ longAt (now (file .entry)) at ⌝ }
+{
+    (word_at(file, at) as u32) * 65536 + (word_at(file, at + 2) as u32)
+}
+
+// The number that 32 bits stand for, and back.
+pub fn signed(n: u32) -> i32
+    ensures { λ r. ⌜ r ≡ signedOf n ⌝ }
+{
+    if n < 2147483648 {
+        return n as i32;
+    }
+    -1 - ((4294967295 - n) as i32)
+}
+
+pub fn unsigned(z: i32) -> u32
+    ensures { λ r. ⌜ r ≡ unsignedOf z ⌝ }
+{
+    if z < 0 {
+        return 4294967295 - ((-1 - z) as u32);
+    }
+    z as u32
+}

@@ -1,0 +1,17 @@
+-- `film_files::signed_number` meets its contract.
+use borrow.Author.Needs.{needs}
+use Rattle.gauge.proofs.Cell.{widens}
+use Rattle.film_files.proofs.signed_number.Statement.{statement}
+use Rattle.film_files.proofs.signed_number.Tie as tie
+
+cast-signed : tie.Need-cast-signed
+cast-signed c = widens (c .fits .x)
+
+signed-requires : tie.Need-signed-requires
+signed-requires c κs = search needs
+
+returns : tie.Need-returns
+returns c = search needs
+
+pub signed-number-spec : {M : Type 1} → statement M
+signed-number-spec = tie.close (tie.spec cast-signed signed-requires returns)

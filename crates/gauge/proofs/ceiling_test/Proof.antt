@@ -1,0 +1,16 @@
+-- `gauge::ceiling_test` meets its contract.
+use borrow.Author.Needs.{needs}
+use Rattle.gauge.proofs.ceiling_test.Statement.{statement}
+use Rattle.gauge.proofs.ceiling_test.Tie as tie
+
+outside-requires : tie.Need-outside-requires
+outside-requires c κs = search needs
+
+fail-if-requires : tie.Need-fail-if-requires
+fail-if-requires c κs = search needs
+
+returns : tie.Need-returns
+returns c = cc
+
+pub ceiling-test-spec : {M : Type 1} → statement M
+ceiling-test-spec = tie.close (tie.spec outside-requires fail-if-requires returns)

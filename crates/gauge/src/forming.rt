@@ -1,0 +1,97 @@
+// One cell's coefficients, from the thicknesses of the cell and of the four beside it.
+ghost use mathlib.Core.Path.{_≡_};
+ghost use mathlib.Core.Bool.{cond};
+ghost use mathlib.Core.List.{[]};
+ghost use Prim.Native.Nat.{_*_, _≤_, _<_};
+ghost use lib.IntN.{pos};
+ghost use Rattle.model.specs.Coefficients.{linkOf};
+ghost use Rattle.model.specs.FileCalls.{gaugeOf};
+ghost use Rattle.gauge.specs.Cell.{sourceOf, coefficientsOf, coefficientsAt, aroundOf, Ringed};
+use model::Head;
+
+// The thicknesses of a cell and of the four beside it, those of the boundary ring too.
+pub struct Around {
+    pub own: u8,
+    pub left: u8,
+    pub right: u8,
+    pub down: u8,
+    pub up: u8,
+}
+
+pub struct Coefficients {
+    pub diagonal: u32,
+    pub right: u32,
+    pub up: u32,
+    pub source: i64,
+}
+
+// The link of two cells: the cube of the sum of their thicknesses.
+fn link(a: u8, b: u8) -> u32
+    ensures { λ r. ⌜ r ≡ linkOf a b ⌝ }
+{
+    let sum = (a as u32) + (b as u32);
+    sum * sum * sum
+}
+
+// The link, if it stays in the grid; else 0.
+fn link_if(inside: bool, link: u32) -> u32
+    ensures { λ r. ⌜ r ≡ cond inside link 0 ⌝ }
+{
+    if inside {
+        return link;
+    }
+    0
+}
+
+// The wedge number times what the thickness gains from the column before to the next one.
+fn source_of(wedge: i32, next: u8, last: u8) -> i64
+    ensures { λ r. ⌜ r ≡ sourceOf wedge next last ⌝ }
+{
+    (wedge as i64) * ((next as i64) - (last as i64))
+}
+
+// The coefficients of a cell; `in_row` and `in_column` say whether its right and its up link stay in the grid.
+fn coefficients_of(around: Around, wedge: i32, in_row: bool, in_column: bool) -> Coefficients
+    ensures { λ r. ⌜ r ≡ coefficientsOf around wedge in_row in_column ⌝ }
+{
+    let left = link(around.own, around.left);
+    let right = link(around.own, around.right);
+    let down = link(around.own, around.down);
+    let up = link(around.own, around.up);
+    Coefficients {
+        diagonal: left + right + down + up,
+        right: link_if(in_row, right),
+        up: link_if(in_column, up),
+        source: source_of(wedge, around.right, around.left),
+    }
+}
+
+// The thicknesses of cell (row, column), which run from 1, and of the four beside it.
+fn around_at(head: Head, thicknesses: &[u8], row: usize, column: usize) -> Around
+    requires { ⌜ Ringed (head .rows) (head .columns) (now thicknesses) ⌝ }
+    requires { ⌜ (1 ≤ row) × (row ≤ head .rows) × (1 ≤ column) × (column ≤ head .columns) ⌝ }
+    ensures { λ r. ⌜ r ≡ aroundOf (gaugeOf head [] (now (thicknesses .entry)) (pos 0)) row column ⌝ }
+{
+    let width = (head.columns as usize) + 2;
+    let place = row * width + column;
+    Around {
+        own: thicknesses[place],
+        left: thicknesses[place - 1],
+        right: thicknesses[place + 1],
+        down: thicknesses[place - width],
+        up: thicknesses[place + width],
+    }
+}
+
+// The coefficients of cell `at`.
+pub fn coefficients_at(head: Head, thicknesses: &[u8], wedge: i32, at: usize) -> Coefficients
+    requires { ⌜ Ringed (head .rows) (head .columns) (now thicknesses) ⌝ }
+    requires { ⌜ at < head .rows * head .columns ⌝ }
+    ensures { λ r. ⌜ r ≡ coefficientsAt (gaugeOf head [] (now (thicknesses .entry)) wedge) at ⌝ }
+{
+    let columns = head.columns as usize;
+    let row = at / columns + 1;
+    let column = at % columns + 1;
+    let around = around_at(head, thicknesses, row, column);
+    coefficients_of(around, wedge, column < columns, row < (head.rows as usize))
+}

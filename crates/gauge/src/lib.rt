@@ -1,0 +1,228 @@
+// A film's numbers as document 01's film file has them, thicknesses and wedge: their tests (refusals 4, 10, 5, 6, 7, 8 and 9), and
+// the coefficients that they form. Internal: the calls that take such numbers or read them from a file call it.
+//
+// Proved: what each test finds, read as the model's check by `checkOf`, equals the check that crate `model` defines; and the
+// coefficients are document 01's, cell by cell (forming.rt) and in the four slices. `gauge_tests` asks nothing of its caller.
+// A refusal's place is the number's place in the film file; that of 9 is the cell, and that of 10 is 0.
+ghost use mathlib.Core.Path.{_≡_};
+ghost use mathlib.Core.Bool.{_&&_};
+ghost use mathlib.Core.List.{[]};
+ghost use Prim.Native.Nat.{_*_, _≤_};
+ghost use lib.Dec.{ltb};
+ghost use lib.IntN.{natAbs};
+ghost use lib.ListN.{length};
+ghost use Rattle.model.specs.Limits.{thicknessLimit, wedgeLimit};
+ghost use Rattle.model.specs.Refusals.{pass, checkOf};
+ghost use Rattle.model.specs.Checks.{outside, shapeCheck, ceilingCheck};
+ghost use Rattle.model.specs.File.{rowsOffset, columnsOffset, ceilingOffset, ringed, weightsCheck, thicknessesCheck, wedgeCheck, gaugeDominance, gaugeCheck};
+ghost use Rattle.model.specs.FileCalls.{gaugeOf, gaugeFits};
+ghost use Rattle.gauge.specs.Cell.{Ringed, Room, Forming};
+ghost use Rattle.gauge.specs.Tests.{numbersCheck, valuesCheck, sizedCheck, Measured, Numbered};
+use model::Fault;
+use model::Head;
+use model::Refusal;
+use model::Tested;
+
+// One cell's coefficients.
+mod forming;
+
+// The limits of model/specs/Limits.
+const SIDE_LIMIT: u32 = 32;
+
+const CEILING_LIMIT: u32 = 16777216;
+
+const THICKNESS_LIMIT: u32 = 128;
+
+const WEDGE_LIMIT: u64 = 1000000000;
+
+// Refusal 4, at the place of each number.
+pub fn shape_test(rows: u32, columns: u32) -> Tested
+    ensures { λ r. ⌜ checkOf r ≡ shapeCheck rows rowsOffset columns columnsOffset ⌝ }
+{
+    checks::or_else(
+        checks::fail_if(checks::outside(rows, 1, SIDE_LIMIT), Fault::BadShape, 3),
+        checks::fail_if(checks::outside(columns, 1, SIDE_LIMIT), Fault::BadShape, 4),
+    )
+}
+
+// Refusal 5.
+pub fn ceiling_test(ceiling: u32) -> Tested
+    ensures { λ r. ⌜ checkOf r ≡ ceilingCheck ceiling ceilingOffset ⌝ }
+{
+    checks::fail_if(
+        checks::outside(ceiling, 1, CEILING_LIMIT),
+        Fault::BadCeiling,
+        8,
+    )
+}
+
+// Refusal 6, at the lowest cell's place.
+pub fn weights_test(weights: &[u16]) -> Tested
+    requires { ⌜ length (now weights) ≤ 1024 ⌝ }
+    ensures { λ r. ⌜ checkOf r ≡ weightsCheck (now (weights .entry)) (length (now (weights .entry))) ⌝ }
+{
+    let mut i = 0;
+    while i < weights.len() {
+        if weights[i] == 0 {
+            return Tested::Refused(Refusal {
+                fault: Fault::ZeroWeight,
+                place: 15 + 2 * i,
+            });
+        }
+        i += 1;
+    }
+    Tested::Fine
+}
+
+// Whether a thickness is not from 1 to 128.
+fn bad_thickness(thickness: u8) -> bool
+    ensures { λ r. ⌜ r ≡ outside thickness 1 thicknessLimit ⌝ }
+{
+    checks::outside(thickness as u32, 1, THICKNESS_LIMIT)
+}
+
+// Refusal 7, at the lowest place, of a film of n cells.
+pub fn thicknesses_test(thicknesses: &[u8], n: usize) -> Tested
+    requires { ⌜ (n ≤ 1024) × (length (now thicknesses) ≤ 1156) ⌝ }
+    ensures { λ r. ⌜ checkOf r ≡ thicknessesCheck (now (thicknesses .entry)) n (length (now (thicknesses .entry))) ⌝ }
+{
+    let mut i = 0;
+    while i < thicknesses.len() {
+        if bad_thickness(thicknesses[i]) {
+            return Tested::Refused(Refusal {
+                fault: Fault::BadThickness,
+                place: 18 + 2 * n + i,
+            });
+        }
+        i += 1;
+    }
+    Tested::Fine
+}
+
+// Whether a wedge number is too far from 0, either way.
+fn far_wedge(wedge: i32) -> bool
+    ensures { λ r. ⌜ r ≡ ltb wedgeLimit (natAbs wedge) ⌝ }
+{
+    let wide = wedge as i64;
+    (WEDGE_LIMIT < cell::lift(wide)) | (WEDGE_LIMIT < cell::drop(wide))
+}
+
+// Refusal 8.
+pub fn wedge_test(wedge: i32, place: usize) -> Tested
+    ensures { λ r. ⌜ checkOf r ≡ wedgeCheck wedge place ⌝ }
+{
+    checks::fail_if(far_wedge(wedge), Fault::BadWedge, place)
+}
+
+// Writes the coefficients of a film's cells into the first N places of four slices.
+pub fn form(
+    head: Head,
+    thicknesses: &[u8],
+    wedge: i32,
+    diagonals: &mut [u32],
+    rights: &mut [u32],
+    ups: &mut [u32],
+    sources: &mut [i64],
+)
+    requires { ⌜ Ringed (head .rows) (head .columns) (now thicknesses) ⌝ }
+    requires { ⌜ Room (head .rows * head .columns) (now diagonals) (now rights) (now ups) (now sources) ⌝ }
+    ensures { λ r. ⌜ Forming (gaugeOf head [] (now (thicknesses .entry)) wedge) (now (diagonals .exit)) (now (rights .exit)) (now (ups .exit)) (now (sources .exit)) ⌝ }
+{
+    let n = checks::area(head.rows, head.columns);
+    let mut i = 0;
+    while i < n {
+        let cell = forming::coefficients_at(head, thicknesses, wedge, i);
+        let source = cell.source;
+        diagonals[i] = cell.diagonal;
+        rights[i] = cell.right;
+        ups[i] = cell.up;
+        sources[i] = source;
+        i += 1;
+    }
+}
+
+// Refusal 9, of a film's numbers that have passed all other tests: it forms their coefficients aside.
+pub fn dominance_test(head: Head, weights: &[u16], thicknesses: &[u8], wedge: i32) -> Tested
+    requires { ⌜ Numbered (gaugeOf head (now weights) (now thicknesses) wedge) ⌝ }
+    ensures { λ r. ⌜ checkOf r ≡ gaugeDominance (gaugeOf head (now (weights .entry)) (now (thicknesses .entry)) wedge) ⌝ }
+{
+    let n = weights.len();
+    let mut diagonals = [0u32; 1024];
+    let mut rights = [0u32; 1024];
+    let mut ups = [0u32; 1024];
+    let mut sources = [0i64; 1024];
+    form(
+        head,
+        thicknesses,
+        wedge,
+        &mut diagonals,
+        &mut rights,
+        &mut ups,
+        &mut sources,
+    );
+    checks::dominance::dominance_test(head, weights, &diagonals[..n], &rights[..n], &ups[..n])
+}
+
+// The number of thicknesses: a ring lies around the grid.
+fn ring(rows: u32, columns: u32) -> usize
+    requires { ⌜ (rows ≤ 32) × (columns ≤ 32) ⌝ }
+    ensures { λ r. ⌜ r ≡ ringed rows columns ⌝ }
+{
+    checks::area(rows + 2, columns + 2)
+}
+
+// Refusals 5, 6, 7 and 8, of a film whose shape and lengths have passed.
+fn number_tests(head: Head, weights: &[u16], thicknesses: &[u8], wedge: i32) -> Tested
+    requires { ⌜ Measured (gaugeOf head (now weights) (now thicknesses) wedge) ⌝ }
+    ensures { λ r. ⌜ checkOf r ≡ numbersCheck (gaugeOf head (now (weights .entry)) (now (thicknesses .entry)) wedge) ⌝ }
+{
+    let n = weights.len();
+    let ceiling = ceiling_test(head.ceiling);
+    let weight = weights_test(weights);
+    let thickness = thicknesses_test(thicknesses, n);
+    let wedge_found = wedge_test(wedge, 21 + 2 * n + thicknesses.len());
+    checks::or_else(
+        ceiling,
+        checks::or_else(weight, checks::or_else(thickness, wedge_found)),
+    )
+}
+
+// Refusals 5, 6, 7, 8 and 9, of a film whose shape and lengths have passed.
+fn value_tests(head: Head, weights: &[u16], thicknesses: &[u8], wedge: i32) -> Tested
+    requires { ⌜ Measured (gaugeOf head (now weights) (now thicknesses) wedge) ⌝ }
+    ensures { λ r. ⌜ checkOf r ≡ valuesCheck (gaugeOf head (now (weights .entry)) (now (thicknesses .entry)) wedge) ⌝ }
+{
+    match number_tests(head, weights, thicknesses, wedge) {
+        Tested::Fine => dominance_test(head, weights, thicknesses, wedge),
+        Tested::Refused(r) => Tested::Refused(r),
+    }
+}
+
+// Refusals 10, 5, 6, 7, 8 and 9, of a film whose shape has passed.
+fn sized_tests(head: Head, weights: &[u16], thicknesses: &[u8], wedge: i32, fits: bool) -> Tested
+    requires { ⌜ shapeCheck (head .rows) rowsOffset (head .columns) columnsOffset ≡ pass ⌝ }
+    ensures { λ r. ⌜ checkOf r ≡ sizedCheck (gaugeOf head (now (weights .entry)) (now (thicknesses .entry)) wedge) fits ⌝ }
+{
+    let whole = (weights.len() == checks::area(head.rows, head.columns))
+        & (thicknesses.len() == ring(head.rows, head.columns));
+    match checks::fail_if(!(whole & fits), Fault::WrongBuffer, 0) {
+        Tested::Fine => value_tests(head, weights, thicknesses, wedge),
+        Tested::Refused(r) => Tested::Refused(r),
+    }
+}
+
+// The tests of a call that takes a film's numbers; `fits` says whether the call's other slices have their lengths.
+pub fn gauge_tests(
+    head: Head,
+    weights: &[u16],
+    thicknesses: &[u8],
+    wedge: i32,
+    fits: bool,
+) -> Tested
+    ensures { λ r. ⌜ checkOf r ≡ gaugeCheck (gaugeOf head (now (weights .entry)) (now (thicknesses .entry)) wedge) (gaugeFits (gaugeOf head (now (weights .entry)) (now (thicknesses .entry)) wedge) && fits) ⌝ }
+{
+    match shape_test(head.rows, head.columns) {
+        Tested::Fine => sized_tests(head, weights, thicknesses, wedge, fits),
+        Tested::Refused(r) => Tested::Refused(r),
+    }
+}
