@@ -4,3 +4,4 @@ pub mod Signed
 pub mod Tags
 pub mod Film
 pub mod Calls
+pub mod Inverse

@@ -2,7 +2,7 @@
 // refused call changes nothing.
 //
 // Proved: the reader's whole answer and both lent buffers, and the writer's answer and the lent slice, are those of crate `model`
-// (Loads, saveCall). With model/proofs/File: what is written reads back, and what was read is written back.
+// (Loads, saveCall). proofs/Inverse: what one call wrote the other reads back, and what was read is written back as it was.
 ghost use mathlib.Core.Path.{_≡_};
 ghost use Prim.Native.Nat.{_≤_};
 ghost use lib.ListN.{length};
