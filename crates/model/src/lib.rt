@@ -1,9 +1,9 @@
 // What document 01 says, as definitions: the one place that a reader must believe.
 //
 // This file declares the values that public calls take and answer with. specs/ gives their meaning, a module for each
-// section of the document and in its order: Refusals, Film (coefficients, slack, dominance), Gauge and Coefficients (a film
-// from thicknesses and wedge), Reynolds (the difference form that they stand for), Relaxation, Proposal, Estimate, Run,
-// History, and FilmF (the document's worked example). Every definition computes.
+// section of the document: Bytes and File (film files), Refusals, Gauge and Coefficients (a film from thicknesses and wedge),
+// Reynolds (the difference form that they stand for), Film (slack, dominance), Checks, Relaxation, Proposal, Margin, Estimate,
+// Run, FileCalls, Demand (demand 3), Report, and FilmF (the document's worked example). Every definition computes.
 //
 // proofs/ ties them to the theory of the crate `monotone`: slack and required pressure, the accept test, the orderings, that
 // a film which passes its tests makes every call a good one, and that the formed coefficients are Reynolds' difference
