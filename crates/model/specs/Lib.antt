@@ -20,5 +20,6 @@ pub mod Bytes
 pub mod File
 pub mod FileCalls
 pub mod Report
+pub mod ReportCall
 pub mod Demand
 pub mod FilmF

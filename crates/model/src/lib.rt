@@ -3,7 +3,7 @@
 // This file declares the values that public calls take and answer with. specs/ gives their meaning, a module for each
 // section of the document: Bytes and File (film files), Refusals, Gauge and Coefficients (a film from thicknesses and wedge),
 // Reynolds (the difference form that they stand for), Film (slack, dominance), Checks, Relaxation, Proposal, Margin, Estimate,
-// Run, FileCalls, Demand (demand 3), Report, and FilmF (the document's worked example). Every definition computes.
+// Run, FileCalls, Report, ReportCall, Demand (demand 3), and FilmF (the document's worked example). Every definition computes.
 //
 // proofs/ ties them to the theory of the crate `monotone`: slack and required pressure, the accept test, the orderings, that
 // a film which passes its tests makes every call a good one, and that the formed coefficients are Reynolds' difference
@@ -108,5 +108,11 @@ pub enum Saved {
 // The answer of the film file's reader: shape, ceiling and wedge; weights and thicknesses are in the lent buffers.
 pub enum Loaded {
     Film(Head, i32),
+    Refused(Refusal),
+}
+
+// The answer of the report: the length of the text, which is written at the start of a lent buffer.
+pub enum Reported {
+    Written(usize),
     Refused(Refusal),
 }
