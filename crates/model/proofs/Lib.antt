@@ -13,3 +13,5 @@ pub mod Demand
 pub mod File
 pub mod Forming
 pub mod FilmF
+pub mod Digits
+pub mod Report
