@@ -11,6 +11,7 @@ pub mod Run
 pub mod History
 pub mod Demand
 pub mod File
+pub mod Prefix
 pub mod Forming
 pub mod FilmF
 pub mod Digits
