@@ -1,0 +1,72 @@
+-- `text::put_signed` meets its contract.
+use mathlib.Core.Path.{_≡_, ap, _∙_}
+use mathlib.Core.List.{[], _∷_, _++_}
+use mir.Facts.{toZ-ofZ}
+use Rattle.model.specs.Integers.{lift, drop}
+use Rattle.model.specs.Report.{decimal, signed}
+use Rattle.text.proofs.Writes.{fits-first, fits-rest, writes-then, signed-below, signed-above}
+use borrow.Author.Needs.{needs}
+use Rattle.text.proofs.put_signed.Statement.{statement}
+use Rattle.text.proofs.put_signed.Tie as tie
+
+-- the text of a number below 0, and of another
+low : (c : tie.Then1) → signed (c .before .before .args .n) ≡ (45 ∷ []) ++ decimal (drop (c .before .before .args .n))
+low c = signed-below (c .before .before .args .n) (rw (toZ-ofZ (c .before .before .fits .n)) at (c .if1 .taken))
+
+high : (c : tie.Else1) → signed (c .before .before .args .n) ≡ decimal (lift (c .before .before .args .n))
+high c = signed-above (c .before .before .args .n) (rw (toZ-ofZ (c .before .before .fits .n)) at (c .if1 .left))
+
+dropped : (c : tie.After-drop) → c .drop .result ≡ drop (c .before .before .before .before .before .before .before .before .args .n)
+dropped c = c .drop .ensures ∙ ap drop (toZ-ofZ (c .before .before .before .before .before .before .before .before .fits .n))
+
+lifted : (c : tie.After-lift) → c .lift .result ≡ lift (c .before .before .before .before .args .n)
+lifted c = c .lift .ensures ∙ ap lift (toZ-ofZ (c .before .before .before .before .fits .n))
+
+put-byte-requires : tie.Need-put-byte-requires
+put-byte-requires c κs = fits-first _ _ (rw (low (c .before)) at (c .before .before .before .pre))
+
+drop-requires : tie.Need-drop-requires
+drop-requires c κs = search needs
+
+put-decimal-requires : tie.Need-put-decimal-requires
+put-decimal-requires c κs =
+    let b = c .before .before .before .before in
+    let t = b .before .before in
+    rw (dropped c) (fits-rest _ _ (rw (low t) at (t .before .before .pre)) (b .put-byte .ensures))
+
+same-length : tie.Need-same-length
+same-length c = search needs
+
+returns : tie.Need-returns
+returns c =
+    let d = c .before .before .before in
+    let b = d .before .before .before .before in
+    rw (low (b .before .before)) (writes-then (b .put-byte .ensures) (rw (dropped d) at (c .before .before .put-decimal .ensures)))
+
+lift-requires : tie.Need-lift-requires
+lift-requires c κs = search needs
+
+put-decimal-requires-2 : tie.Need-put-decimal-requires-2
+put-decimal-requires-2 c κs = rw (lifted c) (rw (high (c .before .before)) at (c .before .before .before .before .pre))
+
+same-length-2 : tie.Need-same-length-2
+same-length-2 c = search needs
+
+returns-2 : tie.Need-returns-2
+returns-2 c =
+    let l = c .before .before .before in
+    rw (high (l .before .before)) (rw (lifted l) at (c .before .before .put-decimal2 .ensures))
+
+pub put-signed-spec : {M : Type 1} → statement M
+put-signed-spec =
+    tie.close
+    (tie.spec
+    put-byte-requires
+    drop-requires
+    put-decimal-requires
+    same-length
+    returns
+    lift-requires
+    put-decimal-requires-2
+    same-length-2
+    returns-2)

@@ -1,0 +1,2 @@
+-- What the writers of text promise.
+pub mod Writes
