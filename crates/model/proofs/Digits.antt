@@ -1,13 +1,16 @@
 -- Numbers in decimal: the definition's step, and how many digits there are.
-use mathlib.Core.Path.{_≡_, ap, _∙_, sym}
+use mathlib.Core.Path.{_≡_, sym, ap, _∙_}
+use mathlib.Core.Bool.{cond}
 use mathlib.Core.List.{List, [], _∷_, _++_}
-use Prim.Native.Nat.{ℕ, zero, suc, _+_, _*_, _/_, _%_, _^_, _≤_, _<_}
-use native.Mathlib.Nat.{pow-suc, div-lt-iff-lt-mul}
+use Prim.Native.Nat.{ℕ, zero, suc, _+_, _-_, _/_, _%_, _^_, _≤_, _<_}
+use native.Mathlib.Nat.{le-refl, pow-suc, div-lt-iff-lt-mul}
 use native.Mathlib.Omega.{arith}
 use borrow.Author.Tests.{lt-ltb, le-ltb}
+use lib.Dec.{ltb}
+use lib.IntN.{subℕ}
 use lib.ListN.{length, length-append}
-use Rattle.model.specs.Report.{digits, decimal}
-use Rattle.model.proofs.Integers.{by-order}
+use Rattle.model.specs.Report.{digits, decimal, signed}
+use Rattle.model.proofs.Integers.{sub-lt, sub-le, by-order}
 
 -- one digit, and one digit after others
 digits-one : (most n : ℕ) → n < 10 → digits (suc most) n ≡ (48 + n) ∷ []
@@ -38,3 +41,51 @@ decimal-one n h = digits-one 19 n h
 pub decimal-more : (n : ℕ) → 10 ≤ n → n < 2 ^ 64 → decimal n ≡ decimal (n / 10) ++ (48 + n % 10) ∷ []
 decimal-more n h l =
     digits-more 19 n h ∙ ap (λ (t : List ℕ). t ++ (48 + n % 10) ∷ []) (digits-room 18 (n / 10) (omega arith))
+
+-- ---- lengths
+
+-- as many digits at most as there is room for
+digits-most : (most n : ℕ) → length (digits most n) ≤ most
+unfolding digits
+digits-most zero n = le-refl 0
+digits-most (suc most) n =
+    by-order n 10
+    (λ l. rw (digits-one most n l) (omega arith))
+    (λ l. rw (digits-more most n l) (omega (arith, length-append (digits most (n / 10)) ((48 + n % 10) ∷ []), digits-most most (n / 10))))
+
+-- a number below 10 ^ j has at most j digits
+digits-length : (most j n : ℕ) → n < 10 ^ suc j → length (digits most n) ≤ suc j
+unfolding digits
+digits-length zero j n h = omega arith
+digits-length (suc most) zero n h = rw (digits-one most n (omega arith)) (le-refl 1)
+digits-length (suc most) (suc j) n h =
+    let shorter = digits-length most j (n / 10) (tenth (suc j) n h) in
+    by-order n 10
+    (λ l. rw (digits-one most n l) (omega arith))
+    (λ l. rw (digits-more most n l) (omega (arith, length-append (digits most (n / 10)) ((48 + n % 10) ∷ []))))
+
+pub decimal-most : (n : ℕ) → length (decimal n) ≤ 20
+decimal-most n = digits-most 20 n
+
+pub decimal-length : (j n : ℕ) → n < 10 ^ suc j → length (decimal n) ≤ suc j
+decimal-length j n h = digits-length 20 j n h
+
+-- the digits of a row or column
+abbrev pub width : ℕ → ℕ
+width n = cond (ltb n 10) 1 2
+
+pub width-most : (n : ℕ) → width n ≤ 2
+width-most n = by-order n 10 (λ l. rw (lt-ltb n 10 l) (omega arith)) (λ l. rw (le-ltb n 10 l) (omega arith))
+
+pub decimal-width : (n : ℕ) → n < 100 → length (decimal n) ≤ width n
+decimal-width n h =
+    by-order n 10
+    (λ l. rw (lt-ltb n 10 l) (decimal-length 0 n l))
+    (λ l. rw (le-ltb n 10 l) (decimal-length 1 n h))
+
+-- a difference of numbers below 10 ^ 16 has at most 16 digits and a sign
+pub signed-length : (a b : ℕ) → a < 10 ^ 16 → b < 10 ^ 16 → length (signed (subℕ a b)) ≤ 17
+signed-length a b h k =
+    by-order a b
+    (λ l. rw (sub-lt a b l) (omega (arith, decimal-length 15 (suc (b - suc a)) (omega arith))))
+    (λ l. rw (sub-le a b l) (omega (arith, decimal-length 15 (a - b) (omega arith))))

@@ -161,7 +161,7 @@ module _ (g : Gauge) (p : List ℕ) where
 -- ---- the four sides of cell (r, c) together
 
 -- pulls add up
-pull-append : (ls ms : List (ℕ × ℕ)) (p : ℕ → ℕ) → pull (ls ++ ms) p ≡ pull ls p + pull ms p
+pub pull-append : (ls ms : List (ℕ × ℕ)) (p : ℕ → ℕ) → pull (ls ++ ms) p ≡ pull ls p + pull ms p
 pull-append [] ms p = omega arith
 pull-append (l ∷ ls) ms p = omega (arith, pull-append ls ms p)
 

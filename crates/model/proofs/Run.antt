@@ -14,7 +14,7 @@ use Rattle.monotone.specs.Linear.{ruleOf}
 use Rattle.monotone.specs.History.{Verdict, Good, verdictOf}
 use Rattle.monotone.proofs.Order.{feasible-satisfied, rises-refl, rises-trans}
 use Rattle.monotone.proofs.Ordering.{permutes-up, permutes-down, permutes-split}
-use Rattle.monotone.proofs.Sweep.{sweep-outcome}
+use Rattle.monotone.proofs.Sweep.{sweep-outcome, Counted, sweep-counts}
 use Rattle.monotone.proofs.Linear.{linear-monotone}
 use Rattle.monotone.proofs.History.{good-sweep, call-visits}
 use Rattle.model.specs.Film.{Film, sizeOf, systemOf}
@@ -57,6 +57,33 @@ visits-end : (a : theory.Answer) (s : theory.State) (accepted : ℕ) → visitsO
 visits-end theory.done s accepted = refl
 visits-end (theory.over i) s accepted = refl
 visits-end theory.stopped s accepted = refl
+
+-- how many raises
+abbrev pub raisesOf : RunAnswer → ℕ
+raisesOf (done c) = c .raises
+raisesOf (stopped c) = c .raises
+raisesOf (over i c) = c .raises
+raisesOf (refused number place) = 0
+
+raises-end : (a : theory.Answer) (s : theory.State) (accepted : ℕ) → raisesOf (endOf a (countsOf s accepted)) ≡ s .raises
+raises-end theory.done s accepted = refl
+raises-end (theory.over i) s accepted = refl
+raises-end theory.stopped s accepted = refl
+
+module _ (f : Film) (budget order : ℕ) (on : Bool) (p : List ℕ) where
+  -- the counters where the run's sweep ends
+  run-counts : Counted budget
+      (theory.sweep (ruleOf (systemOf f)) (ordering f order) budget (theory.begin (readied f budget on p .field)) .last)
+  run-counts = sweep-counts _ _ budget _
+
+  -- no more relaxations than the budget, and no more raises than relaxations
+  pub run-budget : visitsOf (run f budget order on p .answer) ≤ budget
+  unfolding run
+  run-budget = rw visits-end (run-counts .few)
+
+  pub run-raises : raisesOf (run f budget order on p .answer) ≤ visitsOf (run f budget order on p .answer)
+  unfolding run
+  run-raises = rw (visits-end, raises-end) (run-counts .some)
 
 -- a good call that is Done holds the least feasible field at or above its start
 pub good-least : {F : Rule} {p q : List ℕ} → Good F p q Verdict.done → LeastAbove F p q

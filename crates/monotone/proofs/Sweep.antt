@@ -187,3 +187,29 @@ module _ {F : Rule} {p : List ℕ} {a : ℕ} {r : Swept} (O : Outcome F p a r) w
   -- Stopped with a budget that covers every cell: at least one raise
   pub stopped-raised : r .answer ≡ stopped → F .size ≤ a → 0 < r .last .raises
   stopped-raised e = (says stopped e) .1
+
+-- What the counters come to: no more relaxations than the budget, and no more raises than relaxations.
+pub record Counted (budget : ℕ) (s : State) : Type 0 where
+  pub few : s .visits ≤ budget
+  pub some : s .raises ≤ s .visits
+
+module _ (F : Rule) (order : ℕ → ℕ) (a : ℕ) where
+  -- one turn, where what follows it counts well
+  module _ (b : ℕ) (s : State) (e : s .visits + suc b ≡ a) (h : s .raises ≤ s .visits) (k : State → Swept)
+      (on : (t : State) → t .visits + b ≡ a → t .raises ≤ t .visits → Counted a (k t .last)) where
+    count-close : (t : Bool) → Counted a (close F order t (kept F order s) k .last)
+    count-close true = record { few = omega arith; some = omega arith }
+    count-close false = on (kept F order s) (omega arith) (omega arith)
+
+    count-turn : (v : Relaxation) → Counted a (turn F order v s k .last)
+    count-turn quiet = count-close (eqb (s .quiets + 1) (F .size))
+    count-turn raise = on (raised F order s) (omega arith) (omega arith)
+    count-turn exceed = record { few = omega arith; some = omega arith }
+
+  count : (b : ℕ) (s : State) → s .visits + b ≡ a → s .raises ≤ s .visits → Counted a (sweep F order b s .last)
+  unfolding sweep
+  count zero s e h = record { few = omega arith; some = h }
+  count (suc b) s e h = count-turn b s e h (sweep F order b) (count b) (relaxOf F order s)
+
+  pub sweep-counts : (p : List ℕ) → Counted a (sweep F order a (begin p) .last)
+  sweep-counts p = count a (begin p) (omega arith) (omega arith)
