@@ -1,4 +1,4 @@
--- Numbers in decimal: the definition's step, and how many digits there are.
+-- Numbers in decimal, step by step, and the lengths of numbers and of lines.
 use mathlib.Core.Path.{_≡_, sym, ap, _∙_}
 use mathlib.Core.Bool.{cond}
 use mathlib.Core.List.{List, [], _∷_, _++_}
@@ -9,7 +9,7 @@ use borrow.Author.Tests.{lt-ltb, le-ltb}
 use lib.Dec.{ltb}
 use lib.IntN.{subℕ}
 use lib.ListN.{length, length-append}
-use Rattle.model.specs.Report.{digits, decimal, signed}
+use Rattle.model.specs.Report.{digits, decimal, signed, _␣_, line}
 use Rattle.model.proofs.Integers.{sub-lt, sub-le, by-order}
 
 -- one digit, and one digit after others
@@ -42,7 +42,7 @@ pub decimal-more : (n : ℕ) → 10 ≤ n → n < 2 ^ 64 → decimal n ≡ decim
 decimal-more n h l =
     digits-more 19 n h ∙ ap (λ (t : List ℕ). t ++ (48 + n % 10) ∷ []) (digits-room 18 (n / 10) (omega arith))
 
--- ---- lengths
+-- ---- lengths of numbers
 
 -- as many digits at most as there is room for
 digits-most : (most n : ℕ) → length (digits most n) ≤ most
@@ -64,16 +64,18 @@ digits-length (suc most) (suc j) n h =
     (λ l. rw (digits-one most n l) (omega arith))
     (λ l. rw (digits-more most n l) (omega (arith, length-append (digits most (n / 10)) ((48 + n % 10) ∷ []))))
 
+-- in decimal
 pub decimal-most : (n : ℕ) → length (decimal n) ≤ 20
 decimal-most n = digits-most 20 n
 
 pub decimal-length : (j n : ℕ) → n < 10 ^ suc j → length (decimal n) ≤ suc j
 decimal-length j n h = digits-length 20 j n h
 
--- the digits of a row or column
+-- how many digits a row or column has
 abbrev pub width : ℕ → ℕ
 width n = cond (ltb n 10) 1 2
 
+-- at most 2, and enough below 100
 pub width-most : (n : ℕ) → width n ≤ 2
 width-most n = by-order n 10 (λ l. rw (lt-ltb n 10 l) (omega arith)) (λ l. rw (le-ltb n 10 l) (omega arith))
 
@@ -89,3 +91,29 @@ signed-length a b h k =
     by-order a b
     (λ l. rw (sub-lt a b l) (omega (arith, decimal-length 15 (suc (b - suc a)) (omega arith))))
     (λ l. rw (sub-le a b l) (omega (arith, decimal-length 15 (a - b) (omega arith))))
+
+-- ---- lengths of lines
+
+-- the line's end, and a space
+line-length : (a : List ℕ) → length (line a) ≡ length a + 1
+line-length a = length-append a _
+
+space-length : (a b : List ℕ) → length (a ␣ b) ≡ length a + length b + 1
+space-length a b = omega (arith, length-append a (32 ∷ []), length-append (a ++ (32 ∷ [])) b)
+
+-- two, three and five words
+pub two-words : (a b : List ℕ) → length (line (a ␣ b)) ≡ length a + length b + 2
+two-words a b = omega (arith, line-length (a ␣ b), space-length a b)
+
+pub three-words : (a b c : List ℕ) → length (line (a ␣ b ␣ c)) ≡ length a + length b + length c + 3
+three-words a b c = omega (arith, line-length (a ␣ b ␣ c), space-length a (b ␣ c), space-length b c)
+
+pub five-words : (a b c d e : List ℕ) → length (line (a ␣ b ␣ c ␣ d ␣ e)) ≡ length a + length b + length c + length d + length e + 5
+five-words a b c d e = omega (arith, three-words a b (c ␣ d ␣ e), space-length c (d ␣ e), space-length d e)
+
+-- four words, two of them a cell's row and column
+pub placed-words : (a b c d : List ℕ) → length (line ((a ␣ b) ␣ c ␣ d)) ≡ length a + length b + length c + length d + 4
+placed-words a b c d = omega (arith, three-words (a ␣ b) c d, space-length a b)
+
+pub word-placed : (w a b c : List ℕ) → length (line (w ␣ (a ␣ b) ␣ c)) ≡ length w + length a + length b + length c + 4
+word-placed w a b c = omega (arith, three-words w (a ␣ b) c, space-length a b)

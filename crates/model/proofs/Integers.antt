@@ -6,7 +6,7 @@ use native.Mathlib.Nat.{mul-le-mul-left}
 use native.Mathlib.Omega.{arith}
 use borrow.Author.Tests.{lt-ltb, le-ltb, le-leb, lt-leb}
 use lib.Dec.{leb, ltb}
-use lib.IntN.{ℤ, pos, negsuc, negℤ, subℕ, _+ℤ_, _-ℤ_, _*ℤ_}
+use lib.IntN.{ℤ, pos, negsuc, negℤ, subℕ, _+ℤ_, _-ℤ_, _*ℤ_, natAbs}
 use Rattle.model.specs.Integers.{negative, atMostZero, lift, drop}
 
 pub sub-lt : (a b : ℕ) → a < b → subℕ a b ≡ negsuc (b - suc a)
@@ -33,6 +33,15 @@ sub-pos a (suc k) = refl
 pub sub-parts : (z : ℤ) → z ≡ subℕ (lift z) (drop z)
 sub-parts (pos n) = ap pos (omega arith) ∙ sym (sub-le n 0 (omega arith))
 sub-parts (negsuc n) = ap negsuc (omega arith) ∙ sym (sub-lt 0 (suc n) (omega arith))
+
+-- the two parts are within its magnitude
+pub lift-low : (s : ℤ) → lift s ≤ natAbs s
+lift-low (pos n) = omega arith
+lift-low (negsuc n) = omega arith
+
+pub drop-low : (s : ℤ) → drop s ≤ natAbs s
+drop-low (pos n) = omega arith
+drop-low (negsuc n) = omega arith
 
 neg-pos : (n : ℕ) → negℤ (pos n) ≡ subℕ 0 n
 neg-pos zero = sym (sub-le 0 0 (omega arith))

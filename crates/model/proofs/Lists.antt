@@ -8,7 +8,7 @@ use native.Mathlib.Numerals.{add-one}
 use native.Mathlib.Decide.{decLt}
 use native.Mathlib.Omega.{arith}
 use borrow.Author.Tests.{lt-ltb, le-ltb}
-use lib.ListN.{length, getD}
+use lib.ListN.{length, getD, List·getD-eq-default}
 use lib.Seq.{ext-getD}
 use Rattle.model.specs.Lists.{tabulate, firstOf, countBelow, allBelow, greatest}
 
@@ -26,6 +26,14 @@ module _ {A : Type 0} where
   pub tabulate-is : (n : ℕ) (g : ℕ → A) (d : A) (l : List A) → length l ≡ n → ((i : ℕ) → i < n → getD l i d ≡ g i) → l ≡ tabulate n g
   tabulate-is n g d l e h =
       ext-getD d l (tabulate n g) (e ∙ sym (tabulate-length n g)) (λ i b. h i (omega arith) ∙ sym (tabulate-at n g d i (omega arith)))
+
+-- past its end a list counts as 0, so that a bound need be shown for its n numbers only
+pub getD-low : (l : List ℕ) (n k : ℕ) → length l ≡ n → ((i : ℕ) → i < n → getD l i 0 ≤ k) → (i : ℕ) → getD l i 0 ≤ k
+getD-low l n k e h i =
+    elim (decLt i n) [
+      | yes b ↦ h i b
+      | no b ↦ let z : getD l i 0 ≡ 0 = List·getD-eq-default l 0 {n = i} (omega arith) in omega arith
+    ]
 
 -- The least index that passes: what a search that has come to i without finding one knows is `firstOf test i ≡ i`.
 module _ (test : ℕ → Bool) where
