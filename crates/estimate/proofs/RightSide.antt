@@ -4,8 +4,7 @@ use Prim.Native.Nat.{ℕ, _+_, _-_, _≤_, _^_}
 use native.Mathlib.Omega.{arith}
 use lib.IntN.{ℤ, pos, negℤ, subℕ, _+ℤ_, natAbs}
 use Rattle.model.specs.Integers.{lift, drop}
-use Rattle.model.proofs.Integers.{sub-parts, sub-neg, sub-same, sub-add, sub-le, sub-lt, by-order}
-use Rattle.grid.proofs.Limited.{lift-low, drop-low}
+use Rattle.model.proofs.Integers.{sub-parts, sub-neg, sub-same, sub-add, sub-le, sub-lt, by-order, lift-low, drop-low}
 
 pub side-split : (s : ℤ) (a : ℕ) → negℤ s +ℤ pos a ≡ subℕ (a + drop s) (lift s)
 side-split s a =

@@ -3,29 +3,19 @@ use mathlib.Core.Path.{_≡_, sym, _∙_}
 use mathlib.Core.List.{List}
 use Prim.Native.Nat.{ℕ, _*_, _≤_, _<_, _^_}
 use native.Mathlib.Nat.{mul-le-mul}
-use native.Mathlib.Decide.{decLt}
 use native.Mathlib.Omega.{arith}
-use lib.IntN.{ℤ, pos, negsuc, natAbs}
-use lib.ListN.{length, getD, List·getD-eq-default}
+use lib.ListN.{length, getD}
 use Rattle.model.specs.Limits.{sideLimit}
-use Rattle.model.specs.Integers.{lift, drop}
 use Rattle.model.specs.Film.{Film, sizeOf, diagonalAt, sourceAt, pullOf}
 use Rattle.model.specs.Accepted.{Sized, Limited}
+use Rattle.model.proofs.Integers.{lift-low, drop-low}
+use Rattle.model.proofs.Lists.{getD-low}
 use Rattle.cell.specs.declared.Cell.{Cell}
 use Rattle.grid.specs.Pull.{Links, Limits, Loaded, pullBy, cellBy}
 use Rattle.grid.proofs.Neighbours.{Edges, pull-is}
 
 pub size-low : {f : Film} → Sized f → sizeOf f ≤ 1024
 size-low {f} s = let m : f .rows * f .columns ≤ sideLimit * sideLimit = mul-le-mul (s .rows-low) (s .columns-low) in omega arith
-
--- a source's parts are within its magnitude
-pub lift-low : (s : ℤ) → lift s ≤ natAbs s
-lift-low (pos n) = omega arith
-lift-low (negsuc n) = omega arith
-
-pub drop-low : (s : ℤ) → drop s ≤ natAbs s
-drop-low (pos n) = omega arith
-drop-low (negsuc n) = omega arith
 
 module _ {f : Film} (l : Limited f) where
   -- links that leave the grid are 0
@@ -38,10 +28,7 @@ module _ {f : Film} (l : Limited f) where
   links list numbers e n h =
       record {
         len = e ∙ sym n;
-        small = λ k. elim (decLt k (length list)) [
-          | yes b ↦ h k (omega arith)
-          | no b ↦ let z : getD list k 0 ≡ 0 = List·getD-eq-default list 0 {n = k} (omega arith) in omega arith
-        ];
+        small = getD-low list (sizeOf f) (2 ^ 26) e h;
       }
 
   pub cell-limits : (i : ℕ) → i < sizeOf f → Limits (diagonalAt f i) (sourceAt f i)

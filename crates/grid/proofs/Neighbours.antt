@@ -1,7 +1,7 @@
 -- The pull by index is document 01's sum over the neighbours inside the grid, where the links that leave the grid are 0.
 use mathlib.Core.Path.{_≡_, refl, sym, ap, _∙_}
 use mathlib.Core.Bool.{Bool, true, false, cond}
-use mathlib.Core.List.{List, [], _∷_, _++_}
+use mathlib.Core.List.{List}
 use Prim.Native.Nat.{ℕ, zero, suc, _+_, _-_, _*_, _/_, _%_, _≤_, _<_}
 use native.Mathlib.Nat.{div-add-mod, mod-le, mod-eq-of-lt, mul-suc, mul-zero, zero-mul, mul-add-mod-self-left, div-eq-of-lt, le-div-iff-mul-le, add-zero}
 use native.Mathlib.Decide.{decLt}
@@ -11,6 +11,7 @@ use lib.Dec.{ltb}
 use lib.ListN.{getD}
 use Rattle.monotone.specs.Links.{pull}
 use Rattle.model.specs.Film.{Film, sizeOf, rowOf, columnOf, rightAt, upAt, linkIf, beside, across, neighbours, pullOf}
+use Rattle.model.proofs.Reynolds.{pull-append}
 use Rattle.grid.specs.Pull.{backOf, aheadOf, pullBy}
 use Rattle.grid.proofs.Pull.{back-none, back-some}
 
@@ -19,10 +20,6 @@ pub record Edges (f : Film) : Type 0 where
   pub some : 0 < f .columns
   pub right : (k : ℕ) → k < sizeOf f → f .columns ≤ columnOf f k + 1 → rightAt f k ≡ 0
   pub up : (k : ℕ) → k < sizeOf f → f .rows ≤ rowOf f k + 1 → upAt f k ≡ 0
-
-pub pull-append : (ls ms : List (ℕ × ℕ)) (x : ℕ → ℕ) → pull (ls ++ ms) x ≡ pull ls x + pull ms x
-pull-append [] ms x = omega arith
-pull-append (l ∷ ls) ms x = omega (arith, pull-append ls ms x)
 
 pull-if : (b : Bool) (cell link : ℕ) (x : ℕ → ℕ) → pull (linkIf b cell link) x ≡ cond b (link * x cell) 0
 pull-if true cell link x = add-zero (link * x cell)

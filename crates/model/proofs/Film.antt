@@ -3,14 +3,13 @@ use mathlib.Core.Path.{_≡_, refl, sym, ap, _∙_}
 use mathlib.Core.Logic.{_↔_, ⊎-elim}
 use mathlib.Core.Bool.{false}
 use mathlib.Core.List.{List}
-use Prim.Native.Nat.{ℕ, _+_, _*_, _≤_, _<_, zero-le}
+use Prim.Native.Nat.{ℕ, _+_, _*_, _≤_, _<_}
 use native.Mathlib.Nat.{le-antisymm}
-use native.Mathlib.Decide.{decLt}
 use native.Mathlib.Omega.{arith}
 use borrow.Author.Tests.{ltb-false, le-ltb}
 use lib.Dec.{leb, ltb}
 use lib.IntN.{ℤ}
-use lib.ListN.{length, getD, List·getD-eq-default}
+use lib.ListN.{length, getD}
 use lib.Seq.{ext-getD}
 use Rattle.monotone.specs.Rule as theory
 use Rattle.monotone.specs.Linear.{ruleOf, Positive}
@@ -20,6 +19,7 @@ use Rattle.model.specs.Integers.{negative, atMostZero, lift, drop}
 use Rattle.model.specs.Film.{Film, sizeOf, slackOf, Feasible, Least, systemOf}
 use Rattle.model.specs.Relaxation.{requiredFor}
 use Rattle.model.proofs.Integers.{sub-source, negative-sub, atMostZero-sub}
+use Rattle.model.proofs.Lists.{getD-low}
 
 -- The sign of a slack: what bears a cell (diagonal × pressure and the positive part of the source) against what it has to bear (the
 -- pull and the negative part of the source).
@@ -40,10 +40,7 @@ module _ (d pull : ℕ) (s : ℤ) (v : ℕ) where
 -- past its last cell a field counts as 0, so that the ceiling need be tested in cells only
 pub bounded-cells : {F : theory.Rule} {p : List ℕ} → length p ≡ F .size → ((i : ℕ) → i < F .size → getD p i 0 ≤ F .ceiling)
     → theory.Bounded F p
-bounded-cells {F} {p} e h = record { len = e; low = cell }
-  where
-    cell : (i : ℕ) → getD p i 0 ≤ F .ceiling
-    cell i = elim (decLt i (F .size)) [ yes l ↦ h i l | no l ↦ rw (List·getD-eq-default p 0 {n = i} (omega arith)) zero-le ]
+bounded-cells {F} {p} e h = record { len = e; low = getD-low p (F .size) (F .ceiling) e h }
 
 -- a film whose diagonals are all positive
 module _ (f : Film) (P : Positive (systemOf f)) where

@@ -5,7 +5,7 @@ use native.Mathlib.Omega.{arith}
 use lib.IntN.{subℕ}
 use mir.Facts.{toZ-ofZ}
 use Rattle.model.specs.Integers.{lift, drop}
-use Rattle.grid.proofs.Limited.{lift-low, drop-low}
+use Rattle.model.proofs.Integers.{lift-low, drop-low}
 use Rattle.estimate.proofs.RightSide.{side-split}
 use borrow.Author.Needs.{needs, sfits-of}
 use Rattle.estimate.proofs.right_side.Statement.{statement}
