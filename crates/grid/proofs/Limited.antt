@@ -1,13 +1,15 @@
 -- What a film that has passed its limits (4, 5, 10 and 14) gives to the code that loads its cells.
-use mathlib.Core.Path.{_≡_, sym, _∙_}
-use mathlib.Core.List.{List}
+use mathlib.Core.Path.{_≡_, sym, ap, _∙_}
+use mathlib.Core.List.{List, []}
 use Prim.Native.Nat.{ℕ, _*_, _≤_, _<_, _^_}
 use native.Mathlib.Nat.{mul-le-mul}
 use native.Mathlib.Omega.{arith}
+use lib.IntN.{ℤ}
 use lib.ListN.{length, getD}
 use Rattle.model.specs.Limits.{sideLimit}
-use Rattle.model.specs.Film.{Film, sizeOf, diagonalAt, sourceAt, pullOf}
+use Rattle.model.specs.Film.{Film, filmOf, sizeOf, diagonalAt, sourceAt, beside, across, neighbours, pullOf, slackOf, slack}
 use Rattle.model.specs.Accepted.{Sized, Limited}
+use Rattle.model.specs.declared.Head.{Head}
 use Rattle.model.proofs.Integers.{lift-low, drop-low}
 use Rattle.model.proofs.Lists.{getD-low}
 use Rattle.cell.specs.declared.Cell.{Cell}
@@ -65,3 +67,12 @@ module _ {f : Film} (l : Limited f) where
       ≡ record { diagonal = diagonalAt f i; pull = pullOf f numbers i; source = sourceAt f i }
   unfolding cellBy
   cell-is numbers i h = rw (limited-pull numbers i h)
+
+-- the slack from the cell that was loaded; the weights count for nothing in it
+pub cell-slack : (h : Head) (w diagonals rights ups : List ℕ) (sources : List ℤ) (p : List ℕ) (i : ℕ)
+    → Limited (filmOf h w diagonals rights ups sources) → i < h .rows * h .columns → (c : Cell)
+    → c ≡ cellBy (h .columns) diagonals rights ups sources p i
+    → slackOf (c .diagonal) (c .pull) (c .source) (getD p i 0) ≡ slack (filmOf h [] diagonals rights ups sources) p i
+unfolding neighbours beside across
+cell-slack h w diagonals rights ups sources p i l b c e =
+    ap (λ (x : Cell). slackOf (x .diagonal) (x .pull) (x .source) (getD p i 0)) (e ∙ cell-is l p i b)

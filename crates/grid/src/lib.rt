@@ -5,10 +5,14 @@
 // i − 1, i + 1, i − C and i + C, as far as there are such cells. proofs/Neighbours shows that this is the sum over the
 // neighbours inside the grid.
 ghost use mathlib.Core.Path.{_≡_};
-ghost use Prim.Native.Nat.{_≤_, _<_, _^_};
+ghost use mathlib.Core.List.{List, []};
+ghost use Prim.Native.Nat.{ℕ, _*_, _≤_, _<_, _^_};
 ghost use lib.ListN.{length, take};
+ghost use Rattle.model.specs.Film.{filmOf, slack};
+ghost use Rattle.model.specs.Accepted.{Limited};
 ghost use Rattle.grid.specs.Pull.{Links, backOf, aheadOf, Product, pullBy, cellBy, Loaded, Loads};
 use cell::Cell;
+use model::Head;
 
 pub mod order; // order.rt: the table of an ordering
 
@@ -67,6 +71,25 @@ pub fn cell_at(
         pull: pull,
         source: sources[at],
     }
+}
+
+// The slack of a cell of a film that has passed its tests.
+pub fn slack_of(
+    head: Head,
+    diagonals: &[u32],
+    rights: &[u32],
+    ups: &[u32],
+    sources: &[i64],
+    field: &[u32],
+    at: usize,
+) -> i64
+    requires { ⌜ ((w : List ℕ) × Limited (filmOf head w (now diagonals) (now rights) (now ups) (now sources))) ⌝ }
+    requires { ⌜ (length (now field) ≡ head .rows * head .columns) × (at < head .rows * head .columns) ⌝ }
+    ensures { λ r. ⌜ r ≡ slack (filmOf head [] (now (diagonals .entry)) (now (rights .entry)) (now (ups .entry)) (now (sources .entry))) (now (field .entry)) at ⌝ }
+{
+    let pressure = field[at];
+    let columns = head.columns as usize;
+    cell_at(diagonals, rights, ups, sources, columns, field, at).slack(pressure)
 }
 
 // Copies weights into 32-bit numbers, so that one function loads a cell with weights or with pressures.

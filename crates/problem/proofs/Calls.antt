@@ -10,7 +10,7 @@ use lib.ListN.{length, getD}
 use Rattle.monotone.specs.Sweep as theory
 use borrow.Author.Tests.{leb-false}
 use Rattle.model.specs.Refusals.{pass, fail, checkOf}
-use Rattle.model.specs.Film.{Film, filmOf, sizeOf, beside, across, neighbours, slackOf, slack}
+use Rattle.model.specs.Film.{Film, filmOf, sizeOf, beside, across, neighbours, slack}
 use Rattle.model.specs.Checks.{fieldCheck, cellCheck}
 use Rattle.model.specs.Accepted.{Limited}
 use Rattle.model.proofs.Checks.{failIf-pass, field-passes}
@@ -77,16 +77,12 @@ module _ (h : Head) (diagonals rights ups : List ℕ) (sources : List ℤ) where
   abbrev pub whole : List ℕ → Film
   whole w = filmOf h w diagonals rights ups sources
 
-  -- the required pressure and the slack, from the cell that was loaded
+  -- the required pressure, from the cell that was loaded
   module _ (w p : List ℕ) (i : ℕ) (l : Limited (whole w)) (b : i < h .rows * h .columns) (c : Cell)
       (e : c ≡ cellBy (h .columns) diagonals rights ups sources p i) where
     pub cell-required : requiredFor (c .diagonal) (c .pull) (c .source) ≡ required bare p i
     unfolding neighbours beside across
     cell-required = ap (λ (x : Cell). requiredFor (x .diagonal) (x .pull) (x .source)) (e ∙ cell-is l p i b)
-
-    pub cell-slack : slackOf (c .diagonal) (c .pull) (c .source) (getD p i 0) ≡ slack bare p i
-    unfolding neighbours beside across
-    cell-slack = ap (λ (x : Cell). slackOf (x .diagonal) (x .pull) (x .source) (getD p i 0)) (e ∙ cell-is l p i b)
 
   module _ (w p : List ℕ) (i : ℕ) where
     pub relax-passed : {a : RelaxAnswer} {exit : List ℕ} → visitCheck (whole w) p i ≡ pass → Gives (relaxBy pass bare p i) a exit

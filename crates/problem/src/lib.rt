@@ -7,7 +7,7 @@ ghost use mathlib.Core.List.{List, []};
 ghost use Prim.Native.Nat.{ℕ, _*_, _<_};
 ghost use lib.ListN.{length, getD};
 ghost use Rattle.model.specs.Refusals.{pass};
-ghost use Rattle.model.specs.Film.{filmOf, slack as slackIn};
+ghost use Rattle.model.specs.Film.{filmOf};
 ghost use Rattle.model.specs.Accepted.{Limited};
 ghost use Rattle.model.specs.Result.{Gives};
 ghost use Rattle.model.specs.Relaxation.{relaxAnswerOf, relaxBy, relaxCall, slackAnswerOf, slackCall};
@@ -74,25 +74,6 @@ pub fn relax(
     }
 }
 
-// The slack of a cell of a film that has passed its tests.
-fn slack_of(
-    head: Head,
-    diagonals: &[u32],
-    rights: &[u32],
-    ups: &[u32],
-    sources: &[i64],
-    field: &[u32],
-    at: usize,
-) -> i64
-    requires { ⌜ ((w : List ℕ) × Limited (filmOf head w (now diagonals) (now rights) (now ups) (now sources))) ⌝ }
-    requires { ⌜ (length (now field) ≡ head .rows * head .columns) × (at < head .rows * head .columns) ⌝ }
-    ensures { λ r. ⌜ r ≡ slackIn (filmOf head [] (now (diagonals .entry)) (now (rights .entry)) (now (ups .entry)) (now (sources .entry))) (now (field .entry)) at ⌝ }
-{
-    let pressure = field[at];
-    let columns = head.columns as usize;
-    grid::cell_at(diagonals, rights, ups, sources, columns, field, at).slack(pressure)
-}
-
 // Tells the slack of one cell of the field (document 01: its spare).
 pub fn slack(
     head: Head,
@@ -119,7 +100,7 @@ pub fn slack(
         Tested::Fine,
         inside,
     ) {
-        Tested::Fine => Slack::Is(slack_of(head, diagonals, rights, ups, sources, field, at)),
+        Tested::Fine => Slack::Is(grid::slack_of(head, diagonals, rights, ups, sources, field, at)),
         Tested::Refused(r) => Slack::Refused(r),
     }
 }

@@ -4,7 +4,7 @@ use mathlib.Core.List.{List, [], _∷_, _++_, append-assoc}
 use Prim.Native.Nat.{ℕ}
 use lib.IntN.{ℤ}
 use Rattle.model.specs.Report.{_␣_, line, decimal, signed, filmWord, ceilingWord, peakWord}
-use Rattle.text.specs.Writes.{pair, headOf, cellOf, peakOf}
+use Rattle.text.specs.Writes.{pair, headText, cellText, peakText}
 
 abbrev pub space : List ℕ
 space = 32 ∷ []
@@ -19,10 +19,10 @@ pair-parts a b = append-assoc (decimal a) space (decimal b)
 pub line-parts : (a b : List ℕ) → line (a ␣ b) ≡ a ++ (space ++ line b)
 line-parts a b = append-assoc (a ++ space) b end ∙ append-assoc a space (line b)
 
-pub peak-parts : (r c p : ℕ) → peakOf r c p ≡ (peakWord ++ space) ++ (pair r c ++ (space ++ (decimal p ++ end)))
+pub peak-parts : (r c p : ℕ) → peakText r c p ≡ (peakWord ++ space) ++ (pair r c ++ (space ++ (decimal p ++ end)))
 peak-parts r c p = ap (λ l. (peakWord ++ space) ++ l) (line-parts (pair r c) (decimal p))
 
-pub head-parts : (r c k : ℕ) → headOf r c k ≡ (filmWord ++ space) ++ (pair r c ++ ((space ++ ceilingWord ++ space) ++ (decimal k ++ end)))
+pub head-parts : (r c k : ℕ) → headText r c k ≡ (filmWord ++ space) ++ (pair r c ++ ((space ++ ceilingWord ++ space) ++ (decimal k ++ end)))
 head-parts r c k =
     let rest = ceilingWord ␣ decimal k in
     let a = decimal r ++ space in

@@ -24,13 +24,17 @@ pub sets-next : (l xs ys : List ℕ) (i place : ℕ) {m k : List ℕ} → m ≡ 
     → k ≡ sets l i (xs ++ ys)
 sets-next l xs ys i place e f p = f ∙ ap (λ r. sets r place ys) e ∙ sym (sets-append l xs ys i place p)
 
+-- the slice is as long as before
+pub writes-length : {text before after : List ℕ} {at next : ℕ} → Writes text before at after next → length after ≡ length before
+writes-length {text} {before} {after} {at} w = ap length (w .bytes-are) ∙ length-sets before at text
+
 -- a text that fits has room for its first part, and for the rest after that
 pub fits-first : (a b : List ℕ) {out : List ℕ} {at : ℕ} → Fits (a ++ b) out at → Fits a out at
 fits-first a b f = record { room = omega (arith, f .room, length-append a b) }
 
 pub fits-rest : (a b : List ℕ) {out after : List ℕ} {at next : ℕ} → Fits (a ++ b) out at → Writes a out at after next → Fits b after next
 fits-rest a b {out} {after} {at} {next} f w =
-    record { room = omega (arith, f .room, length-append a b, w .next-is, ap length (w .bytes-are) ∙ length-sets out at a) }
+    record { room = omega (arith, f .room, length-append a b, w .next-is, writes-length w) }
 
 -- both are written by writing the one and then the other
 pub writes-then : {a b out middle after : List ℕ} {at between next : ℕ} → Writes a out at middle between → Writes b middle between after next

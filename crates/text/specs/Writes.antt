@@ -19,11 +19,11 @@ pub record Writes (text before : List ℕ) (at : ℕ) (after : List ℕ) (next :
 abbrev pub pair : ℕ → ℕ → List ℕ
 pair a b = decimal a ␣ decimal b
 
-abbrev pub headOf : ℕ → ℕ → ℕ → List ℕ
-headOf rows columns ceiling = line (filmWord ␣ decimal rows ␣ decimal columns ␣ ceilingWord ␣ decimal ceiling)
+abbrev pub headText : ℕ → ℕ → ℕ → List ℕ
+headText rows columns ceiling = line (filmWord ␣ decimal rows ␣ decimal columns ␣ ceilingWord ␣ decimal ceiling)
 
-abbrev pub cellOf : ℕ → ℕ → ℕ → ℤ → List ℕ
-cellOf row column pressure slack = line (pair row column ␣ decimal pressure ␣ signed slack)
+abbrev pub cellText : ℕ → ℕ → ℕ → ℤ → List ℕ
+cellText row column pressure slack = line (pair row column ␣ decimal pressure ␣ signed slack)
 
-abbrev pub peakOf : ℕ → ℕ → ℕ → List ℕ
-peakOf row column pressure = line (peakWord ␣ pair row column ␣ decimal pressure)
+abbrev pub peakText : ℕ → ℕ → ℕ → List ℕ
+peakText row column pressure = line (peakWord ␣ pair row column ␣ decimal pressure)

@@ -1,6 +1,6 @@
 // The report's lines, by the numbers that stand on them. One space stands between, and each line ends with a line feed.
 ghost use Rattle.model.specs.Report.{_␣_, line, decimal, signed};
-ghost use Rattle.text.specs.Writes.{Fits, Writes, pair, headOf, cellOf, peakOf};
+ghost use Rattle.text.specs.Writes.{Fits, Writes, pair, headText, cellText, peakText};
 
 // Two numbers, such as a cell's row and column.
 fn put_pair(out: &mut [u8], at: usize, a: u64, b: u64) -> usize
@@ -42,8 +42,8 @@ pub fn put_counted(out: &mut [u8], at: usize, word: &[u8], a: u64, b: u64) -> us
 
 // The film's shape and ceiling.
 pub fn put_head(out: &mut [u8], at: usize, rows: u64, columns: u64, ceiling: u64) -> usize
-    requires { ⌜ Fits (headOf rows columns ceiling) (now out) at ⌝ }
-    ensures { λ r. ⌜ Writes (headOf rows columns ceiling) (now (out .entry)) at (now (out .exit)) r ⌝ }
+    requires { ⌜ Fits (headText rows columns ceiling) (now out) at ⌝ }
+    ensures { λ r. ⌜ Writes (headText rows columns ceiling) (now (out .entry)) at (now (out .exit)) r ⌝ }
 {
     let shape = crate::put_bytes(out, at, b"FILM ");
     let spaced = put_pair(out, shape, rows, columns);
@@ -53,8 +53,8 @@ pub fn put_head(out: &mut [u8], at: usize, rows: u64, columns: u64, ceiling: u64
 
 // Where the pressure is greatest, and that pressure.
 pub fn put_peak(out: &mut [u8], at: usize, row: u64, column: u64, pressure: u64) -> usize
-    requires { ⌜ Fits (peakOf row column pressure) (now out) at ⌝ }
-    ensures { λ r. ⌜ Writes (peakOf row column pressure) (now (out .entry)) at (now (out .exit)) r ⌝ }
+    requires { ⌜ Fits (peakText row column pressure) (now out) at ⌝ }
+    ensures { λ r. ⌜ Writes (peakText row column pressure) (now (out .entry)) at (now (out .exit)) r ⌝ }
 {
     let place = crate::put_bytes(out, at, b"PEAK ");
     let spaced = put_pair(out, place, row, column);
@@ -82,8 +82,8 @@ pub fn put_cell(
     pressure: u64,
     slack: i64,
 ) -> usize
-    requires { ⌜ Fits (cellOf row column pressure slack) (now out) at ⌝ }
-    ensures { λ r. ⌜ Writes (cellOf row column pressure slack) (now (out .entry)) at (now (out .exit)) r ⌝ }
+    requires { ⌜ Fits (cellText row column pressure slack) (now out) at ⌝ }
+    ensures { λ r. ⌜ Writes (cellText row column pressure slack) (now (out .entry)) at (now (out .exit)) r ⌝ }
 {
     let spaced = put_pair(out, at, row, column);
     let next = crate::put_byte(out, spaced, 32);

@@ -1,13 +1,12 @@
--- `problem::slack_of` meets its contract.
+-- `grid::slack_of` meets its contract.
 use mathlib.Core.Path.{_∙_}
 use native.Mathlib.Omega.{arith}
 use mir.Facts.{toZ-ofZ}
 use borrow.Author.Needs.{needs, sfits-of}
 use denote.Ref.{now}
-use Rattle.grid.proofs.Limited.{limited-loaded}
-use Rattle.problem.proofs.Calls.{cell-slack}
-use Rattle.problem.proofs.slack_of.Statement.{statement}
-use Rattle.problem.proofs.slack_of.Tie as tie
+use Rattle.grid.proofs.Limited.{limited-loaded, cell-slack}
+use Rattle.grid.proofs.slack_of.Statement.{statement}
+use Rattle.grid.proofs.slack_of.Tie as tie
 
 mul-pressure : tie.Need-mul-pressure
 mul-pressure c = search needs
@@ -30,7 +29,7 @@ returns : tie.Need-returns
 returns c =
     let s = c .before .before .before .before .before .before .before .before in
     rw (toZ-ofZ (sfits-of (c .slack .ok)))
-    (c .slack .ensures ∙ cell-slack (s .args .head) _ _ _ _ (s .pre .0 .0) (now (s .args .field)) (s .args .at) (s .pre .0 .1) (s .pre .1 .1) (c .before .cell-at .result) (c .before .cell-at .ensures .is))
+    (c .slack .ensures ∙ cell-slack (s .args .head) (s .pre .0 .0) _ _ _ _ (now (s .args .field)) (s .args .at) (s .pre .0 .1) (s .pre .1 .1) (c .before .cell-at .result) (c .before .cell-at .ensures .is))
 
 pub slack-of-spec : {M : Type 1} → statement M
 slack-of-spec =
