@@ -24,7 +24,7 @@ use Rattle.checks.proofs.Chain.{orElse-assoc, orElse-given}
 use Rattle.gauge.specs.Tests.{Measured, Numbered}
 use Rattle.file.specs.Tags.{fileLength, Ready}
 use Rattle.file.specs.Reading.{fieldTest, restCheck, filmIn, LoadsBy}
-use Rattle.file.proofs.Stores.{sets-front}
+use Rattle.text.proofs.Writes.{sets-front}
 use Rattle.file.proofs.Tags.{length-known}
 
 -- sides within their limits, from the test of the shape

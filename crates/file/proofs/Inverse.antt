@@ -13,7 +13,7 @@ use Rattle.model.specs.Refusals.{Check, pass, fail, _orElse_, failIf}
 use Rattle.model.specs.Gauge.{Gauge}
 use Rattle.model.specs.Checks.{shapeCheck}
 use Rattle.model.specs.Result.{Gives}
-use Rattle.model.specs.File.{cells, ringed, rowsOffset, columnsOffset, endOffset, gaugeIn, fileCheck, accepted, readBy, readFilm, fileOf, gaugeCheck, Bytes, Values}
+use Rattle.model.specs.File.{cells, ringed, rowsOffset, columnsOffset, endOffset, gaugeIn, fileCheck, Reading, accepted, readBy, readFilm, fileOf, gaugeCheck, Bytes, Values}
 use Rattle.model.specs.FileCalls.{gaugeOf, headOf, gaugeFits, WriteAnswer, written, writeAnswer, saveCheck, saveCall, LoadAnswer, film, loadAnswer, loadCheck, laidOver, Loads}
 use Rattle.model.proofs.Checks.{orElse-parts, failIf-pass}
 use Rattle.model.proofs.File.{file-length, written-reads, read-writes, read-values}
@@ -76,6 +76,43 @@ abbrev pub used : Head → ℤ → List ℕ → List ℕ → Gauge
 used h wedge weights thicknesses =
     gaugeOf h (take (cells (h .rows) (h .columns)) weights) (take (ringed (h .rows) (h .columns)) thicknesses) wedge
 
+-- What the reader answers is what the file's bytes say: the film whose numbers it laid over its buffers, ..
+pub read-film : (bytes weights thicknesses weights′ thicknesses′ : List ℕ) (h : Head) (wedge : ℤ) → Bytes bytes
+    → Loads bytes weights thicknesses (film h wedge) weights′ thicknesses′
+    → readFilm bytes ≡ accepted (used h wedge weights′ thicknesses′)
+read-film bytes weights thicknesses weights′ thicknesses′ h wedge B L =
+    let g = gaugeIn bytes in
+    let loaded : loadCheck bytes weights thicknesses ≡ pass = load-passed (loadCheck bytes weights thicknesses) g (L .answer-is) in
+    let accepts : fileCheck bytes ≡ pass =
+    orElse-parts (failIf (not (eqb (length weights) 1024 && eqb (length thicknesses) 1156)) 10 0) _ loaded .1 in
+    let reads : readFilm bytes ≡ accepted g = ap (λ c. readBy c bytes) accepts in
+    let values = read-values bytes g B reads .0 in
+    let answered : film h wedge ≡ film (headOf g) (g .wedge) = rw loaded at (L .answer-is) in
+    let head : h ≡ headOf g = cc in
+    let slope : wedge ≡ g .wedge = cc in
+    let ws : weights′ ≡ laidOver (g .weights) weights = rw loaded at (L .weights-are) in
+    let ts : thicknesses′ ≡ laidOver (g .thicknesses) thicknesses = rw loaded at (L .thicknesses-are) in
+    let weights-used : take (cells (g .rows) (g .columns)) weights′ ≡ g .weights = laid (g .weights) weights ws (values .weights-len) in
+    let thicknesses-used : take (ringed (g .rows) (g .columns)) thicknesses′ ≡ g .thicknesses =
+    laid (g .thicknesses) thicknesses ts (values .thicknesses-len) in
+    let same : used h wedge weights′ thicknesses′ ≡ g =
+    ap (λ x. used x wedge weights′ thicknesses′) head
+    ∙ (λ k. gaugeOf (headOf g) (weights-used k) (thicknesses-used k) (slope k)) in
+    reads ∙ ap accepted (sym same)
+
+-- .. or the file's refusal.
+load-refusal : (c : Check) (bytes : List ℕ) {number place : ℕ} → LoadAnswer.refused number place ≡ loadAnswer c (gaugeIn bytes)
+    → readBy c bytes ≡ Reading.refused number place
+load-refusal pass bytes e = let z : _≡_ {A = ℕ} 0 1 = cc in absurd (omega arith)
+load-refusal (fail n k) bytes e = cc
+
+pub read-refusal : (bytes weights thicknesses weights′ thicknesses′ : List ℕ) (number place : ℕ) → length weights ≡ 1024 → length thicknesses ≡ 1156
+    → Loads bytes weights thicknesses (LoadAnswer.refused number place) weights′ thicknesses′
+    → readFilm bytes ≡ Reading.refused number place
+read-refusal bytes weights thicknesses weights′ thicknesses′ number place w t L =
+    let same : loadCheck bytes weights thicknesses ≡ fileCheck bytes = rw (w, t) in
+    load-refusal (fileCheck bytes) bytes (rw same at (L .answer-is))
+
 -- Read, then written: the writer writes the file's own bytes.
 pub read-write : (bytes weights thicknesses weights′ thicknesses′ out out′ : List ℕ) (h : Head) (wedge : ℤ) (answer : WriteAnswer) → Bytes bytes
     → Loads bytes weights thicknesses (film h wedge) weights′ thicknesses′
@@ -83,28 +120,12 @@ pub read-write : (bytes weights thicknesses weights′ thicknesses′ out out′
     → Gives (saveCall (used h wedge weights′ thicknesses′) out) answer out′
     → (answer ≡ written) × (out′ ≡ bytes)
 read-write bytes weights thicknesses weights′ thicknesses′ out out′ h wedge answer B L e s =
-    let g = gaugeIn bytes in
-    let loaded : loadCheck bytes weights thicknesses ≡ pass = load-passed (loadCheck bytes weights thicknesses) g (L .answer-is) in
-    let accepts : fileCheck bytes ≡ pass =
-    orElse-parts (failIf (not (eqb (length weights) 1024 && eqb (length thicknesses) 1156)) 10 0) _ loaded .1 in
-    let reads : readFilm bytes ≡ accepted g = ap (λ c. readBy c bytes) accepts in
+    let g = used h wedge weights′ thicknesses′ in
+    let reads = read-film bytes weights thicknesses weights′ thicknesses′ h wedge B L in
     let values = read-values bytes g B reads in
     let whole : fileOf g ≡ bytes = read-writes bytes g B reads in
-    let answered : film h wedge ≡ film (headOf g) (g .wedge) = rw loaded at (L .answer-is) in
-    let head : h ≡ headOf g = cc in
-    let slope : wedge ≡ g .wedge = cc in
-    let ws : weights′ ≡ laidOver (g .weights) weights = rw loaded at (L .weights-are) in
-    let ts : thicknesses′ ≡ laidOver (g .thicknesses) thicknesses = rw loaded at (L .thicknesses-are) in
-    let weights-used : take (cells (g .rows) (g .columns)) weights′ ≡ g .weights =
-    laid (g .weights) weights ws (values .0 .weights-len) in
-    let thicknesses-used : take (ringed (g .rows) (g .columns)) thicknesses′ ≡ g .thicknesses =
-    laid (g .thicknesses) thicknesses ts (values .0 .thicknesses-len) in
-    let same : used h wedge weights′ thicknesses′ ≡ g =
-    ap (λ x. used x wedge weights′ thicknesses′) head
-    ∙ (λ k. gaugeOf (headOf g) (weights-used k) (thicknesses-used k) (slope k)) in
     let room : length out ≡ endOffset (cells (g .rows) (g .columns)) (ringed (g .rows) (g .columns)) =
     e ∙ ap length (sym whole) ∙ file-length g (values .0) in
     let saved : saveCheck g out ≡ pass =
     rw (eq-eqb _ _ (values .0 .weights-len), eq-eqb _ _ (values .0 .thicknesses-len), eq-eqb _ _ room) (values .1) in
-    let S : Gives (saveCall g out) answer out′ = subst (λ (x : Gauge). Gives (saveCall x out) answer out′) same s in
-    (rw saved at (S .answer-is), (rw saved at (S .lent-is)) ∙ whole)
+    (rw saved at (s .answer-is), (rw saved at (s .lent-is)) ∙ whole)

@@ -1,61 +1,13 @@
--- Lists of numbers that a loop writes into a slice from an offset on: `sets` of lib.Seq, part by part.
-use mathlib.Core.Path.{_≡_, refl, sym, ap, _∙_}
-use mathlib.Core.List.{List, [], _∷_, _++_, append-nil}
-use Prim.Native.Nat.{ℕ, suc, _+_, _*_, _≤_, _<_}
-use native.Mathlib.Nat.{add-zero, zero-add}
-use native.Mathlib.Numerals.{add-one}
+-- The bytes of weights, one after another.
+use mathlib.Core.Path.{_≡_, refl, ap}
+use mathlib.Core.List.{List, [], _∷_, _++_}
+use Prim.Native.Nat.{ℕ, _+_, _*_, _≤_}
 use native.Mathlib.Omega.{arith}
-use lib.ListN.{length, getD, set, take, drop}
-use lib.Seq.{sets, sets-eq, length-sets, take-suc, take-length, length-take-le, drop-length}
+use lib.ListN.{length, take}
+use lib.Seq.{length-take-le}
 use Rattle.model.specs.Bytes.{word}
 use Rattle.model.specs.File.{weightBytes}
 
--- two lists, one after the other
-pub sets-append : (l xs ys : List ℕ) (i place : ℕ) → place ≡ i + length xs → sets l i (xs ++ ys) ≡ sets (sets l i xs) place ys
-sets-append l [] ys i place e = ap (λ k. sets l k ys) (sym (e ∙ add-zero i))
-sets-append l (x ∷ xs) ys i place e = sets-append (set l i x) xs ys (suc i) place (omega arith)
-
-pub sets-next : (l xs ys : List ℕ) (i place : ℕ) {m k : List ℕ} → m ≡ sets l i xs → k ≡ sets m place ys → place ≡ i + length xs
-    → k ≡ sets l i (xs ++ ys)
-sets-next l xs ys i place e f p = f ∙ ap (λ r. sets r place ys) e ∙ sym (sets-append l xs ys i place p)
-
--- from the start on, and over the whole slice
-pub sets-front : (l xs : List ℕ) → length xs ≤ length l → sets l 0 xs ≡ xs ++ drop (length xs) l
-sets-front l xs h = sets-eq xs l 0 (omega arith) ∙ simp zero-add
-
-pub sets-whole : (l xs : List ℕ) → length xs ≡ length l → sets l 0 xs ≡ xs
-sets-whole l xs e = sets-front l xs (omega arith) ∙ rw (e, drop-length l, append-nil)
-
--- A loop that writes a list's numbers as bytes: those of the first i are written.
-pub record Put (bytes : List ℕ → List ℕ) (source : List ℕ) (at : ℕ) (before : List ℕ) (i : ℕ) (after : List ℕ) : Type 0 where
-  pub within : i ≤ length source
-  pub done : after ≡ sets before at (bytes (take i source))
-  pub len : length after ≡ length before
-
-module _ {bytes : List ℕ → List ℕ} {source : List ℕ} {at : ℕ} {before : List ℕ} where
-  pub put-none : bytes [] ≡ [] → Put bytes source at before 0 before
-  put-none e = record { within = omega arith; done = rw e; len = refl }
-
-  -- one number more: its bytes go to the place after those written
-  pub put-more : {i place : ℕ} {after next : List ℕ} → i < length source
-      → bytes (take i source ++ getD source i 0 ∷ []) ≡ bytes (take i source) ++ bytes (getD source i 0 ∷ [])
-      → place ≡ at + length (bytes (take i source)) → Put bytes source at before i after
-      → next ≡ sets after place (bytes (getD source i 0 ∷ [])) → Put bytes source at before (i + 1) next
-  put-more {i} {place} {after} {next} h b e p n =
-      let new = bytes (getD source i 0 ∷ []) in
-      let more : take (i + 1) source ≡ take i source ++ getD source i 0 ∷ [] = rw add-one (take-suc source i 0 h) in
-      record {
-        within = omega arith;
-        done = sets-next before (bytes (take i source)) new at place (p .done) n e ∙ ap (sets before at) (sym b ∙ ap bytes (sym more));
-        len = ap length n ∙ length-sets after place new ∙ p .len;
-      }
-
-  pub put-all : {i : ℕ} {after : List ℕ} → length source ≤ i → Put bytes source at before i after → after ≡ sets before at (bytes source)
-  put-all {i} {after} h p =
-      let e : i ≡ length source = omega (arith, p .within) in
-      p .done ∙ ap (λ l. sets before at (bytes l)) (ap (λ k. take k source) e ∙ take-length source)
-
--- the bytes of weights, one after another
 pub weights-append : (xs ys : List ℕ) → weightBytes (xs ++ ys) ≡ weightBytes xs ++ weightBytes ys
 weights-append [] ys = refl
 weights-append (x ∷ xs) ys = ap (λ l. word x ++ l) (weights-append xs ys)

@@ -111,5 +111,5 @@ pub fn put_thicknesses(out: &mut [u8], at: usize, thicknesses: &[u8])
     ensures { λ r. ⌜ now (out .exit) ≡ sets (now (out .entry)) at (fieldOf 4 (length (now (thicknesses .entry))) (now (thicknesses .entry))) ⌝ }
 {
     crate::put::put_header(out, at, 4, thicknesses.len() as u32);
-    crate::put::put_bytes(out, at + 3, thicknesses);
+    text::put_bytes(out, at + 3, thicknesses);
 }

@@ -162,7 +162,7 @@ fn read_shaped(file: &[u8], weights: &mut [u16], thicknesses: &mut [u8]) -> Load
     match film_test(file, head, &words[..n], &bytes[..t], wedge) {
         Tested::Fine => {
             put::put_words(weights, &words[..n]);
-            put::put_bytes(thicknesses, 0, &bytes[..t]);
+            text::put_bytes(thicknesses, 0, &bytes[..t]);
             Loaded::Film(head, wedge)
         }
         Tested::Refused(r) => Loaded::Refused(r),

@@ -32,17 +32,6 @@ pub fn put_header(out: &mut [u8], at: usize, tag: u8, size: u32)
     put_word(out, at + 1, size);
 }
 
-pub fn put_bytes(out: &mut [u8], at: usize, bytes: &[u8])
-    requires { ⌜ at + length (now bytes) ≤ length (now out) ⌝ }
-    ensures { λ r. ⌜ now (out .exit) ≡ sets (now (out .entry)) at (now (bytes .entry)) ⌝ }
-{
-    let mut i = 0;
-    while i < bytes.len() {
-        out[at + i] = bytes[i];
-        i += 1;
-    }
-}
-
 // Weights as the bytes of a file.
 pub fn put_weights(out: &mut [u8], at: usize, weights: &[u16])
     requires { ⌜ at + 2 * length (now weights) ≤ length (now out) ⌝ }

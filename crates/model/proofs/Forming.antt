@@ -12,11 +12,13 @@ use lib.IntN.{ℤ, pos, negsuc, negℤ, _-ℤ_, _*ℤ_, natAbs}
 use lib.ListN.{length, getD}
 use Rattle.model.specs.Limits.{sideLimit, ceilingLimit, thicknessLimit, wedgeLimit, diagonalLimit, linkLimit, sourceLimit}
 use Rattle.model.specs.Lists.{tabulate, firstOf}
-use Rattle.model.specs.Refusals.{pass, failFirst}
+use Rattle.monotone.specs.Rule.{Bounded}
+use Rattle.monotone.specs.Linear.{ruleOf}
+use Rattle.model.specs.Refusals.{Check, pass, _orElse_, failFirst}
 use Rattle.model.specs.Gauge.{Gauge, thicknessAt}
-use Rattle.model.specs.Film.{Film, sizeOf, weightAt}
+use Rattle.model.specs.Film.{Film, sizeOf, weightAt, systemOf}
 use Rattle.model.specs.Coefficients.{linkOf, formedDiagonal, formedRight, formedUp, formedSource, byCell, formed}
-use Rattle.model.specs.Checks.{outside, filmFits, badCoefficient, zeroWeight, notDominant, sizeCheck, coefficientCheck, weightCheck, dominanceCheck, filmCheck}
+use Rattle.model.specs.Checks.{outside, filmFits, badCoefficient, zeroWeight, notDominant, sizeCheck, coefficientCheck, weightCheck, dominanceCheck, startCheck, numericCheck, filmCheck, fieldCheck}
 use Rattle.model.specs.Accepted.{Sized, LimitedCell, Limited, Accepted}
 use Rattle.model.specs.File.{cells, ringed, ceilingOffset, weightOffset, thicknessOffset, gaugeDominance, readFilm, accepted, gaugeCheck, Bytes, Values}
 use Rattle.model.proofs.Integers.{sub-pos, sub-lt, sub-le, by-order}
@@ -69,14 +71,29 @@ cell-fine f i c =
       le-ltb _ _ (c .source-low),
     )
 
--- all of a film's own tests
-pub accepted-passes : (f : Film) → Accepted f → filmCheck f ≡ pass
+-- all of a film's own tests, so that a call's are left
+accepted-rest : (f : Film) → Accepted f → (order start place : Check) → numericCheck f true order start place ≡ (order orElse start orElse place)
 unfolding coefficientCheck weightCheck dominanceCheck zeroWeight notDominant
-accepted-passes f A =
-    pass-both (size-fine f (A .limited .sized))
-    (pass-both (pass-first _ (sizeOf f) 14 (λ i. i) (λ i h. cell-fine f i (A .limited .cell i h)))
-    (pass-both (pass-first _ (sizeOf f) 6 (λ i. i) (λ i h. ne-eqb (weightAt f i) 0 (λ e. omega (arith, A .weight i h))))
-    (pass-both (pass-first _ (sizeOf f) 9 (λ i. i) (A .dominant)) refl)))
+accepted-rest f A order start place =
+    rw (
+      size-fine f (A .limited .sized),
+      pass-first (badCoefficient f) (sizeOf f) 14 (λ i. i) (λ i h. cell-fine f i (A .limited .cell i h)),
+      pass-first (zeroWeight f) (sizeOf f) 6 (λ i. i) (λ i h. ne-eqb (weightAt f i) 0 (λ e. omega (arith, A .weight i h))),
+      pass-first (notDominant f) (sizeOf f) 9 (λ i. i) (A .dominant),
+    )
+
+pub accepted-passes : (f : Film) → Accepted f → filmCheck f ≡ pass
+accepted-passes f A = accepted-rest f A pass pass pass
+
+-- a field of such a film passes too
+pub field-accepted : (f : Film) (p : List ℕ) (order place : Check) → Accepted f → Bounded (ruleOf (systemOf f)) p
+    → fieldCheck f p true order place ≡ (order orElse place)
+field-accepted f p order place A B =
+    rw (
+      eq-eqb _ _ (B .len),
+      accepted-rest f A order (startCheck f p) place,
+      pass-first (λ i. ltb (f .ceiling) (getD p i 0)) (sizeOf f) 12 (λ i. i) (λ i h. le-ltb (f .ceiling) (getD p i 0) (B .low i)),
+    )
 
 -- ---- limits of the formed coefficients, over plain numbers
 

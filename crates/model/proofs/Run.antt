@@ -3,13 +3,14 @@
 use mathlib.Core.Path.{_≡_, refl}
 use mathlib.Core.Bool.{Bool, true, false}
 use mathlib.Core.List.{List}
-use Prim.Native.Nat.{ℕ, zero, suc, _+_, _-_, _*_, _≤_}
+use Prim.Native.Nat.{ℕ, zero, suc, _+_, _-_, _*_, _≤_, _<_}
+use native.Mathlib.Omega.{arith}
 use lib.ListN.{length}
 use Rattle.monotone.specs.Field.{total}
 use Rattle.monotone.specs.Rule.{Rule, Bounded, Rises, LeastAbove}
 use Rattle.monotone.specs.Ordering.{Permutes}
 use Rattle.monotone.specs.Sweep as theory
-use Rattle.monotone.specs.Outcome.{Outcome}
+use Rattle.monotone.specs.Outcome.{Says, Outcome}
 use Rattle.monotone.specs.Linear.{ruleOf}
 use Rattle.monotone.specs.History.{Verdict, Good, verdictOf}
 use Rattle.monotone.proofs.Order.{feasible-satisfied, rises-refl, rises-trans}
@@ -94,6 +95,17 @@ good-least g =
       under = λ z m. g .rises .under z (feasible-satisfied m);
     }
 
+-- the cell of Over, from what the sweep's answer says
+over-says : (F : Rule) (p : List ℕ) (budget : ℕ) (a : theory.Answer) (s : theory.State) (x c : Counts) (i : ℕ) → Says F p budget a s
+    → endOf a x ≡ over i c → i < F .size
+over-says F p budget theory.done s x c i told e = let z : _≡_ {A = ℕ} 0 1 = cc in absurd (omega arith)
+over-says F p budget (theory.over j) s x c i told e = let z : j ≡ i = cc in omega (arith, told .0)
+over-says F p budget theory.stopped s x c i told e = let z : _≡_ {A = ℕ} 0 1 = cc in absurd (omega arith)
+
+over-end : {F : Rule} {p : List ℕ} {budget : ℕ} {r : theory.Swept} → Outcome F p budget r → (x c : Counts) (i : ℕ) → endOf (r .answer) x ≡ over i c
+    → i < F .size
+over-end {F} {p} {budget} {r} O x c i e = over-says F p budget (r .answer) (r .last) x c i (O .says) e
+
 module _ (f : Film) (A : Accepted f) where
   -- the program's own proposal for a line, and for lines 1 to n
   own-rises : (line : ℕ) (s : Readied) → Bounded (ruleOf (systemOf f)) (s .field)
@@ -138,3 +150,8 @@ module _ (f : Film) (A : Accepted f) where
     pub run-done-least : (c : Counts) → run f budget order on p .answer ≡ done c
         → LeastAbove (ruleOf (systemOf f)) p (run f budget order on p .lent)
     run-done-least c e = good-least (rw e at run-good)
+
+    -- Over names a cell of the grid
+    pub run-over : (i : ℕ) (c : Counts) → run f budget order on p .answer ≡ over i c → i < sizeOf f
+    unfolding run
+    run-over i c e = over-end run-outcome _ c i e

@@ -183,7 +183,7 @@ slice-aggregate-put-bytes : tie.Need-slice-aggregate-put-bytes
 slice-aggregate-put-bytes c = sym (bytes-len (c .before .before .before .before .before .before .before .before .before .before .before .before))
 
 put-bytes-requires : tie.Need-put-bytes-requires
-put-bytes-requires c κs = omega (arith, thicknesses-room (c .before .before .before .before .before .before .before .before .before .before .before .before))
+put-bytes-requires c κs = record { room = omega (arith, thicknesses-room (c .before .before .before .before .before .before .before .before .before .before .before .before)) }
 
 enum-known-r : tie.Need-enum-known-r
 enum-known-r c = search needs
@@ -203,7 +203,7 @@ returns c =
     rw (toZ-ofZ (sfits-of (x .signed .ok)))
     (film-loaded (now (a .file)) (now (a .weights)) (now (a .thicknesses)) (same x) e (weights-room x) (thicknesses-room x)
     (c .before .before .before .before .before .before .before .put-words .ensures)
-    (c .before .before .put-bytes .ensures))
+    (c .before .before .put-bytes .ensures .bytes-are))
 
 returns-2 : tie.Need-returns-2
 returns-2 c =

@@ -2,7 +2,7 @@
 
 -- `file::fields::put_number` meets its contract.
 use mathlib.Core.Path.{refl}
-use Rattle.file.proofs.Stores.{sets-next}
+use Rattle.text.proofs.Writes.{sets-next}
 use denote.Ref.{now}
 use Rattle.model.specs.Bytes.{word, long}
 use Prim.Native.Nat.{_+_}

@@ -1,6 +1,6 @@
 -- `file::fields::put_shape` meets its contract.
 use mathlib.Core.Path.{refl}
-use Rattle.file.proofs.Stores.{sets-next}
+use Rattle.text.proofs.Writes.{sets-next}
 use denote.Ref.{now}
 use Rattle.model.specs.Bytes.{word}
 use mathlib.Core.List.{_∷_, []}

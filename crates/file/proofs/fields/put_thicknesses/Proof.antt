@@ -1,8 +1,6 @@
 -- `file::fields::put_thicknesses` meets its contract.
-
--- `file::fields::put_thicknesses` meets its contract.
 use mathlib.Core.Path.{refl}
-use Rattle.file.proofs.Stores.{sets-next}
+use Rattle.text.proofs.Writes.{sets-next}
 use denote.Ref.{now}
 use Rattle.model.specs.Bytes.{word}
 use Prim.Native.Nat.{_+_}
@@ -32,7 +30,7 @@ returns c =
     let h = c .before .before .before .before .before .before in
     let a = h .before .before .before .before .args in
     let ts = now (a .thicknesses) in
-    sets-next (now (a .out)) (4 ∷ word (length ts)) ts (a .at) (a .at + 3) (h .put-header .ensures) (c .before .before .put-bytes .ensures) refl
+    sets-next (now (a .out)) (4 ∷ word (length ts)) ts (a .at) (a .at + 3) (h .put-header .ensures) (c .before .before .put-bytes .ensures .bytes-are) refl
 
 pub put-thicknesses-spec : {M : Type 1} → statement M
 put-thicknesses-spec =

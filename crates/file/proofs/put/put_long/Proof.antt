@@ -5,7 +5,7 @@ use denote.Ref.{now}
 use Rattle.model.specs.Bytes.{word}
 use Prim.Native.Nat.{_+_, _/_, _%_}
 use mathlib.Core.Path.{refl}
-use Rattle.file.proofs.Stores.{sets-next}
+use Rattle.text.proofs.Writes.{sets-next}
 use borrow.Author.Needs.{needs}
 use Rattle.file.proofs.put.put_long.Statement.{statement}
 use Rattle.file.proofs.put.put_long.Tie as tie

@@ -8,7 +8,8 @@ use Prim.Native.Nat.{_-_}
 use native.Mathlib.Omega.{arith}
 use lib.ListN.{length}
 use borrow.Author.Needs.{needs}
-use Rattle.file.proofs.Stores.{Put, put-none, put-more, put-all, weights-append, weights-front}
+use Rattle.text.proofs.Writes.{Put, put-none, put-more, put-all}
+use Rattle.file.proofs.Stores.{weights-append, weights-front}
 use Rattle.model.specs.File.{weightBytes}
 use Rattle.file.proofs.put.put_weights.Statement.{statement}
 use Rattle.file.proofs.put.put_weights.Tie as tie

@@ -8,7 +8,7 @@ use Prim.Native.Nat.{_-_}
 use native.Mathlib.Omega.{arith}
 use lib.ListN.{length}
 use borrow.Author.Needs.{needs}
-use Rattle.file.proofs.Stores.{Put, put-none, put-more, put-all}
+use Rattle.text.proofs.Writes.{Put, put-none, put-more, put-all}
 use Rattle.file.proofs.put.put_words.Statement.{statement}
 use Rattle.file.proofs.put.put_words.Tie as tie
 
