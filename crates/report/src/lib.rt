@@ -1,0 +1,141 @@
+// The report: from the bytes of a film file to the bytes of the text, through one run from zero. The call asks nothing of its caller:
+// a buffer that could not hold the longest report is refused, and every file has its report, a refused one too.
+//
+// Proved: the answer, and the lent buffer, are those of crate `model` (reportCall): the text that `reportOf` gives for the file's
+// bytes, byte for byte, and nothing beyond it has changed.
+ghost use mathlib.Core.Path.{_≡_};
+ghost use mathlib.Core.Bool.{true};
+ghost use Prim.Native.Nat.{_*_};
+ghost use lib.ListN.{replicate};
+ghost use Rattle.model.specs.Refusals.{pass};
+ghost use Rattle.model.specs.Film.{filmOf};
+ghost use Rattle.model.specs.Coefficients.{formed};
+ghost use Rattle.model.specs.Accepted.{Accepted};
+ghost use Rattle.model.specs.Result.{Gives};
+ghost use Rattle.model.specs.File.{gaugeCheck, Values};
+ghost use Rattle.model.specs.FileCalls.{gaugeOf};
+ghost use Rattle.model.specs.Report.{filmReport, reportOf};
+ghost use Rattle.model.specs.ReportCall.{reportAnswerOf, reportCall};
+ghost use Rattle.text.specs.Writes.{Fits, Writes};
+use model::Fault;
+use model::Head;
+use model::Loaded;
+use model::Refusal;
+use model::Reported;
+
+// The length of the longest report, as in model/specs/ReportCall.
+const LONGEST: usize = 33288;
+
+// The budget of the report's run.
+const BUDGET: u32 = 4000000;
+
+// The report of an accepted film: its head, one run on a field of zeros, and the run's answer.
+fn put_run(
+    head: Head,
+    weights: &[u16],
+    diagonals: &[u32],
+    rights: &[u32],
+    ups: &[u32],
+    sources: &[i64],
+    field: &mut [u32],
+    out: &mut [u8],
+) -> usize
+    requires { ⌜ Accepted (filmOf head (now weights) (now diagonals) (now rights) (now ups) (now sources)) × (now field ≡ replicate (head .rows * head .columns) 0) ⌝ }
+    requires { ⌜ Fits (filmReport (filmOf head (now weights) (now diagonals) (now rights) (now ups) (now sources))) (now out) 0 ⌝ }
+    ensures { λ r. ⌜ Writes (filmReport (filmOf head (now (weights .entry)) (now (diagonals .entry)) (now (rights .entry)) (now (ups .entry)) (now (sources .entry)))) (now (out .entry)) 0 (now (out .exit)) r ⌝ }
+{
+    let next = text::lines::put_head(
+        out,
+        0,
+        head.rows as u64,
+        head.columns as u64,
+        head.ceiling as u64,
+    );
+    let answer = run::run(
+        head,
+        weights,
+        diagonals,
+        rights,
+        ups,
+        sources,
+        field,
+        BUDGET,
+        0,
+        false,
+    );
+    render::put_answer(
+        head,
+        diagonals,
+        rights,
+        ups,
+        sources,
+        &field[..],
+        answer,
+        out,
+        next,
+    )
+}
+
+// The report of a film's numbers that have passed their tests.
+fn put_film(head: Head, weights: &[u16], thicknesses: &[u8], wedge: i32, out: &mut [u8]) -> usize
+    requires { ⌜ Values (gaugeOf head (now weights) (now thicknesses) wedge) × (gaugeCheck (gaugeOf head (now weights) (now thicknesses) wedge) true ≡ pass) ⌝ }
+    requires { ⌜ Fits (filmReport (formed (gaugeOf head (now weights) (now thicknesses) wedge))) (now out) 0 ⌝ }
+    ensures { λ r. ⌜ Writes (filmReport (formed (gaugeOf head (now (weights .entry)) (now (thicknesses .entry)) wedge))) (now (out .entry)) 0 (now (out .exit)) r ⌝ }
+{
+    let n = weights.len();
+    let mut diagonals = [0u32; 1024];
+    let mut rights = [0u32; 1024];
+    let mut ups = [0u32; 1024];
+    let mut sources = [0i64; 1024];
+    let mut field = [0u32; 1024];
+    gauge::form(
+        head,
+        thicknesses,
+        wedge,
+        &mut diagonals,
+        &mut rights,
+        &mut ups,
+        &mut sources,
+    );
+    put_run(
+        head,
+        weights,
+        &diagonals[..n],
+        &rights[..n],
+        &ups[..n],
+        &sources[..n],
+        &mut field[..n],
+        out,
+    )
+}
+
+// The report of a file.
+fn put_report(file: &[u8], out: &mut [u8]) -> usize
+    requires { ⌜ Fits (reportOf (now file)) (now out) 0 ⌝ }
+    ensures { λ r. ⌜ Writes (reportOf (now (file .entry))) (now (out .entry)) 0 (now (out .exit)) r ⌝ }
+{
+    let mut weights = [0u16; 1024];
+    let mut thicknesses = [0u8; 1156];
+    match file::read(file, &mut weights, &mut thicknesses) {
+        Loaded::Film(head, wedge) => {
+            let n = checks::area(head.rows, head.columns);
+            let t = checks::area(head.rows + 2, head.columns + 2);
+            put_film(head, &weights[..n], &thicknesses[..t], wedge, out)
+        }
+        Loaded::Refused(r) => render::put_refused(r, out, 0),
+    }
+}
+
+// Writes the report of a film file into a lent buffer that holds any report, and answers its length. Places beyond it keep their
+// contents.
+pub fn report(file: &[u8], out: &mut [u8]) -> Reported
+    ensures { λ r. ⌜ Gives (reportCall (now (file .entry)) (now (out .entry))) (reportAnswerOf r) (now (out .exit)) ⌝ }
+{
+    if out.len() < LONGEST {
+        return Reported::Refused(Refusal {
+            fault: Fault::WrongBuffer,
+            place: 0,
+        });
+    }
+    Reported::Written(put_report(file, out))
+}
