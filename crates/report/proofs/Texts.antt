@@ -135,3 +135,11 @@ module _ (bytes out : List ℕ) where
         answer-is = rw (le-ltb _ _ h) (ap ReportAnswer.written size);
         lent-is = rw (le-ltb _ _ h) (w .bytes-are ∙ sets-front out (reportOf bytes) (omega (arith, report-fits bytes B)));
       }
+
+  -- what was written is within the buffer
+  pub written-fits : {after : List ℕ} {n : ℕ} → Bytes bytes → longestReport ≤ length out → Gives (reportCall bytes out) (ReportAnswer.written n) after
+      → n ≤ length out
+  written-fits {after} {n} B h G =
+      let told : ReportAnswer.written n ≡ ReportAnswer.written (length (reportOf bytes)) = rw (le-ltb _ _ h) at (G .answer-is) in
+      let size : n ≡ length (reportOf bytes) = cc in
+      omega (arith, report-fits bytes B)

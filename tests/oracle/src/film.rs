@@ -1,0 +1,275 @@
+//! The film file: its numbers, its reader and its writer (document 01, "The film file" and
+//! "Refusals").
+
+use crate::coefficients::form;
+use crate::relax::first_not_dominant;
+use crate::{refuse, Refusal, Whole};
+
+/// Length of the weight buffer that a caller lends to the reader.
+pub const WEIGHT_BUFFER: usize = 1_024;
+/// Length of the thickness buffer that a caller lends to the reader.
+pub const THICKNESS_BUFFER: usize = 1_156;
+
+const LARGEST_SIDE: Whole = 32;
+const LARGEST_CEILING: Whole = 16_777_216;
+const LARGEST_THICKNESS: u8 = 128;
+const LARGEST_WEDGE: i32 = 1_000_000_000;
+
+// Where the numbers of a file lie.
+const ROWS_AT: usize = 3;
+const COLUMNS_AT: usize = 4;
+const CEILING_AT: usize = 8;
+const WEIGHTS_AT: usize = 15;
+
+/// The numbers of a film file.
+#[derive(Clone, Debug, PartialEq, Eq)]
+pub struct Film {
+    pub rows: usize,
+    pub columns: usize,
+    pub ceiling: u32,
+    /// One for each cell, by index.
+    pub weights: Vec<u16>,
+    /// Rows 0 to R + 1, and in each of them columns 0 to C + 1: the boundary ring is included.
+    pub thickness: Vec<u8>,
+    pub wedge: i32,
+}
+
+impl Film {
+    /// N, the number of cells.
+    pub fn cells(&self) -> usize {
+        self.rows * self.columns
+    }
+
+    /// Thickness at row 0 to R + 1 and column 0 to C + 1.
+    pub fn thickness_at(&self, row: usize, column: usize) -> Whole {
+        Whole::from(self.thickness[row * (self.columns + 2) + column])
+    }
+}
+
+/// Number of thicknesses, the ring included.
+pub fn thickness_count(rows: usize, columns: usize) -> usize {
+    (rows + 2) * (columns + 2)
+}
+
+/// Length of the file of a film with `rows` and `columns`.
+pub fn file_length(rows: usize, columns: usize) -> usize {
+    25 + 2 * rows * columns + thickness_count(rows, columns)
+}
+
+fn thickness_offset(cells: usize) -> usize {
+    18 + 2 * cells
+}
+
+fn wedge_offset(rows: usize, columns: usize) -> usize {
+    21 + 2 * rows * columns + thickness_count(rows, columns)
+}
+
+/// Reads a film file into numbers of its own. The tests come field by field: header, tag, length,
+/// presence of the body, values; then bytes after field 05; then dominance.
+pub fn read(bytes: &[u8]) -> Result<Film, Refusal> {
+    let shape = body(bytes, 0, 0x01, 2)?;
+    let (rows, columns) = (usize::from(shape[0]), usize::from(shape[1]));
+    check_shape(rows as Whole, columns as Whole)?;
+
+    let ceiling = be_u32(body(bytes, 5, 0x02, 4)?);
+    check_ceiling(ceiling)?;
+
+    let cells = rows * columns;
+    let weights: Vec<u16> = body(bytes, 12, 0x03, 2 * cells)?
+        .chunks(2)
+        .map(|pair| u16::from_be_bytes([pair[0], pair[1]]))
+        .collect();
+    check_weights(&weights)?;
+
+    let thickness_header = thickness_offset(cells) - 3;
+    let count = thickness_count(rows, columns);
+    let thickness = body(bytes, thickness_header, 0x04, count)?.to_vec();
+    check_thickness(&thickness, cells)?;
+
+    let wedge_header = wedge_offset(rows, columns) - 3;
+    let wedge = be_u32(body(bytes, wedge_header, 0x05, 4)?) as i32;
+    check_wedge(wedge, rows, columns)?;
+
+    let end = file_length(rows, columns);
+    if bytes.len() > end {
+        return refuse(2, end);
+    }
+    let film = Film {
+        rows,
+        columns,
+        ceiling,
+        weights,
+        thickness,
+        wedge,
+    };
+    check_dominance(&film)?;
+    Ok(film)
+}
+
+/// The reading call: fills the two lent buffers and hands back rows, columns, ceiling and wedge.
+/// Wrong buffers come first; places beyond those used keep their contents.
+pub fn read_into(
+    bytes: &[u8],
+    weights: &mut [u16],
+    thickness: &mut [u8],
+) -> Result<(usize, usize, u32, i32), Refusal> {
+    if weights.len() != WEIGHT_BUFFER || thickness.len() != THICKNESS_BUFFER {
+        return refuse(10, 0);
+    }
+    let film = read(bytes)?;
+    weights[..film.weights.len()].copy_from_slice(&film.weights);
+    thickness[..film.thickness.len()].copy_from_slice(&film.thickness);
+    Ok((film.rows, film.columns, film.ceiling, film.wedge))
+}
+
+/// One field: the header of three bytes, its tag, its length, then its body.
+fn body(bytes: &[u8], at: usize, tag: u8, length: usize) -> Result<&[u8], Refusal> {
+    if bytes.len() < at + 3 {
+        return refuse(1, bytes.len());
+    }
+    if bytes[at] != tag {
+        return refuse(2, at);
+    }
+    if usize::from(u16::from_be_bytes([bytes[at + 1], bytes[at + 2]])) != length {
+        return refuse(3, at);
+    }
+    if bytes.len() < at + 3 + length {
+        return refuse(1, bytes.len());
+    }
+    Ok(&bytes[at + 3..at + 3 + length])
+}
+
+fn be_u32(body: &[u8]) -> u32 {
+    u32::from_be_bytes([body[0], body[1], body[2], body[3]])
+}
+
+/// The numbers that the writer, and the call that forms coefficients, are given.
+#[derive(Clone, Copy)]
+pub struct Numbers<'a> {
+    pub rows: Whole,
+    pub columns: Whole,
+    pub ceiling: u32,
+    pub weights: &'a [u16],
+    pub thickness: &'a [u8],
+    pub wedge: i32,
+}
+
+impl<'a> From<&'a Film> for Numbers<'a> {
+    fn from(film: &'a Film) -> Self {
+        Numbers {
+            rows: film.rows as Whole,
+            columns: film.columns as Whole,
+            ceiling: film.ceiling,
+            weights: &film.weights,
+            thickness: &film.thickness,
+            wedge: film.wedge,
+        }
+    }
+}
+
+/// The tests of the writer and of the forming call: 4, 10, 5, 6, 7, 8, 9, at the offsets that the
+/// numbers would get in a file. `lent_fits` says, for a good shape, whether the slices that the
+/// call fills have the right lengths.
+pub fn check_numbers(
+    given: Numbers,
+    lent_fits: impl Fn(usize, usize) -> bool,
+) -> Result<Film, Refusal> {
+    check_shape(given.rows, given.columns)?;
+    let (rows, columns) = (given.rows as usize, given.columns as usize);
+    let cells = rows * columns;
+    let fits = given.weights.len() == cells
+        && given.thickness.len() == thickness_count(rows, columns)
+        && lent_fits(rows, columns);
+    if !fits {
+        return refuse(10, 0);
+    }
+    check_ceiling(given.ceiling)?;
+    check_weights(given.weights)?;
+    check_thickness(given.thickness, cells)?;
+    check_wedge(given.wedge, rows, columns)?;
+    let film = Film {
+        rows,
+        columns,
+        ceiling: given.ceiling,
+        weights: given.weights.to_vec(),
+        thickness: given.thickness.to_vec(),
+        wedge: given.wedge,
+    };
+    check_dominance(&film)?;
+    Ok(film)
+}
+
+/// The writing call: fills a lent slice that has exactly the file's length.
+pub fn write_into(given: Numbers, out: &mut [u8]) -> Result<(), Refusal> {
+    let length = out.len();
+    let film = check_numbers(given, |rows, columns| length == file_length(rows, columns))?;
+    out.copy_from_slice(&write(&film));
+    Ok(())
+}
+
+/// The bytes of a film file, with no test at all: test vectors need refused files too.
+pub fn write(film: &Film) -> Vec<u8> {
+    let weights: Vec<u8> = film.weights.iter().flat_map(|w| w.to_be_bytes()).collect();
+    let mut bytes = Vec::new();
+    put_field(&mut bytes, 0x01, &[film.rows as u8, film.columns as u8]);
+    put_field(&mut bytes, 0x02, &film.ceiling.to_be_bytes());
+    put_field(&mut bytes, 0x03, &weights);
+    put_field(&mut bytes, 0x04, &film.thickness);
+    put_field(&mut bytes, 0x05, &film.wedge.to_be_bytes());
+    bytes
+}
+
+fn put_field(bytes: &mut Vec<u8>, tag: u8, body: &[u8]) {
+    bytes.push(tag);
+    bytes.extend((body.len() as u16).to_be_bytes());
+    bytes.extend(body);
+}
+
+fn check_shape(rows: Whole, columns: Whole) -> Result<(), Refusal> {
+    if !(1..=LARGEST_SIDE).contains(&rows) {
+        return refuse(4, ROWS_AT);
+    }
+    if !(1..=LARGEST_SIDE).contains(&columns) {
+        return refuse(4, COLUMNS_AT);
+    }
+    Ok(())
+}
+
+fn check_ceiling(ceiling: u32) -> Result<(), Refusal> {
+    if !(1..=LARGEST_CEILING).contains(&Whole::from(ceiling)) {
+        return refuse(5, CEILING_AT);
+    }
+    Ok(())
+}
+
+fn check_weights(weights: &[u16]) -> Result<(), Refusal> {
+    match weights.iter().position(|&weight| weight == 0) {
+        Some(cell) => refuse(6, WEIGHTS_AT + 2 * cell),
+        None => Ok(()),
+    }
+}
+
+/// Corners of the ring are read, so they are tested like the others.
+fn check_thickness(thickness: &[u8], cells: usize) -> Result<(), Refusal> {
+    match thickness
+        .iter()
+        .position(|h| !(1..=LARGEST_THICKNESS).contains(h))
+    {
+        Some(number) => refuse(7, thickness_offset(cells) + number),
+        None => Ok(()),
+    }
+}
+
+fn check_wedge(wedge: i32, rows: usize, columns: usize) -> Result<(), Refusal> {
+    if !(-LARGEST_WEDGE..=LARGEST_WEDGE).contains(&wedge) {
+        return refuse(8, wedge_offset(rows, columns));
+    }
+    Ok(())
+}
+
+fn check_dominance(film: &Film) -> Result<(), Refusal> {
+    match first_not_dominant(form(film).system(), &film.weights) {
+        Some(cell) => refuse(9, cell),
+        None => Ok(()),
+    }
+}

@@ -1,0 +1,33 @@
+//! Test oracle, written from document 01 alone. It shares nothing with the program under test: no
+//! code, no dependency, no constant. Whole numbers are `i128`, in which nothing here can overflow;
+//! binary64 appears only in the estimate of a line, where document 01 asks for it, one rounding
+//! for each operation and in the text's order.
+//!
+//! Every module follows one section of document 01. The comments name the section's own words.
+
+pub mod calls;
+pub mod checks;
+pub mod coefficients;
+pub mod film;
+pub mod line;
+pub mod relax;
+pub mod report;
+pub mod run;
+pub mod samples;
+pub mod vectors;
+pub mod weights;
+
+/// A whole number, wide enough for every sum and product of document 01.
+pub type Whole = i128;
+
+/// A refusal hands back its number and its place alone.
+#[derive(Clone, Copy, Debug, PartialEq, Eq)]
+pub struct Refusal {
+    pub number: u8,
+    pub place: usize,
+}
+
+/// Shorthand for the refusal `number` at `place`.
+pub fn refuse<T>(number: u8, place: usize) -> Result<T, Refusal> {
+    Err(Refusal { number, place })
+}
