@@ -8,6 +8,11 @@ ghost use Rattle.text.specs.Writes.{Fits, Writes};
 
 pub mod lines; // lines.rt: the report's lines
 
+// In ASCII.
+const MINUS: u8 = 45;
+
+const ZERO: u64 = 48;
+
 pub fn put_byte(out: &mut [u8], at: usize, byte: u8) -> usize
     requires { ⌜ Fits (byte ∷ []) (now out) at ⌝ }
     ensures { λ r. ⌜ Writes (byte ∷ []) (now (out .entry)) at (now (out .exit)) r ⌝ }
@@ -34,10 +39,10 @@ pub fn put_decimal(out: &mut [u8], at: usize, n: u64) -> usize
     ensures { λ r. ⌜ Writes (decimal n) (now (out .entry)) at (now (out .exit)) r ⌝ }
 {
     if n < 10 {
-        return put_byte(out, at, (48 + n) as u8);
+        return put_byte(out, at, (ZERO + n) as u8);
     }
     let next = put_decimal(out, at, n / 10);
-    put_byte(out, next, (48 + n % 10) as u8)
+    put_byte(out, next, (ZERO + n % 10) as u8)
 }
 
 // A signed number: a minus sign stands before those below 0.
@@ -46,7 +51,7 @@ pub fn put_signed(out: &mut [u8], at: usize, n: i64) -> usize
     ensures { λ r. ⌜ Writes (signed n) (now (out .entry)) at (now (out .exit)) r ⌝ }
 {
     if n < 0 {
-        let next = put_byte(out, at, 45);
+        let next = put_byte(out, at, MINUS);
         return put_decimal(out, next, cell::drop(n));
     }
     put_decimal(out, at, cell::lift(n))

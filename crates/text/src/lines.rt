@@ -2,13 +2,18 @@
 ghost use Rattle.model.specs.Report.{_␣_, line, decimal, signed};
 ghost use Rattle.text.specs.Writes.{Fits, Writes, pair, headText, cellText, peakText};
 
+// In ASCII.
+const SPACE: u8 = 32;
+
+const NEWLINE: u8 = 10;
+
 // Two numbers, such as a cell's row and column.
 fn put_pair(out: &mut [u8], at: usize, a: u64, b: u64) -> usize
     requires { ⌜ Fits (pair a b) (now out) at ⌝ }
     ensures { λ r. ⌜ Writes (pair a b) (now (out .entry)) at (now (out .exit)) r ⌝ }
 {
     let spaced = crate::put_decimal(out, at, a);
-    let next = crate::put_byte(out, spaced, 32);
+    let next = crate::put_byte(out, spaced, SPACE);
     crate::put_decimal(out, next, b)
 }
 
@@ -18,7 +23,7 @@ fn put_last(out: &mut [u8], at: usize, n: u64) -> usize
     ensures { λ r. ⌜ Writes (line (decimal n)) (now (out .entry)) at (now (out .exit)) r ⌝ }
 {
     let end = crate::put_decimal(out, at, n);
-    crate::put_byte(out, end, 10)
+    crate::put_byte(out, end, NEWLINE)
 }
 
 // A row and a column alone on their line: where a run went over the ceiling.
@@ -27,7 +32,7 @@ pub fn put_place(out: &mut [u8], at: usize, row: u64, column: u64) -> usize
     ensures { λ r. ⌜ Writes (line (pair row column)) (now (out .entry)) at (now (out .exit)) r ⌝ }
 {
     let end = put_pair(out, at, row, column);
-    crate::put_byte(out, end, 10)
+    crate::put_byte(out, end, NEWLINE)
 }
 
 // A word and two numbers: an answer with its counts, or a refusal with number and place.
@@ -36,7 +41,7 @@ pub fn put_counted(out: &mut [u8], at: usize, word: &[u8], a: u64, b: u64) -> us
     ensures { λ r. ⌜ Writes (line (now (word .entry) ␣ pair a b)) (now (out .entry)) at (now (out .exit)) r ⌝ }
 {
     let spaced = crate::put_bytes(out, at, word);
-    let next = crate::put_byte(out, spaced, 32);
+    let next = crate::put_byte(out, spaced, SPACE);
     put_place(out, next, a, b)
 }
 
@@ -58,7 +63,7 @@ pub fn put_peak(out: &mut [u8], at: usize, row: u64, column: u64, pressure: u64)
 {
     let place = crate::put_bytes(out, at, b"PEAK ");
     let spaced = put_pair(out, place, row, column);
-    let next = crate::put_byte(out, spaced, 32);
+    let next = crate::put_byte(out, spaced, SPACE);
     put_last(out, next, pressure)
 }
 
@@ -68,9 +73,9 @@ fn put_values(out: &mut [u8], at: usize, pressure: u64, slack: i64) -> usize
     ensures { λ r. ⌜ Writes (line (decimal pressure ␣ signed slack)) (now (out .entry)) at (now (out .exit)) r ⌝ }
 {
     let spaced = crate::put_decimal(out, at, pressure);
-    let next = crate::put_byte(out, spaced, 32);
+    let next = crate::put_byte(out, spaced, SPACE);
     let end = crate::put_signed(out, next, slack);
-    crate::put_byte(out, end, 10)
+    crate::put_byte(out, end, NEWLINE)
 }
 
 // A cell's row, column, pressure and slack.
@@ -86,6 +91,6 @@ pub fn put_cell(
     ensures { λ r. ⌜ Writes (cellText row column pressure slack) (now (out .entry)) at (now (out .exit)) r ⌝ }
 {
     let spaced = put_pair(out, at, row, column);
-    let next = crate::put_byte(out, spaced, 32);
+    let next = crate::put_byte(out, spaced, SPACE);
     put_values(out, next, pressure, slack)
 }
