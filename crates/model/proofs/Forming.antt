@@ -24,7 +24,7 @@ use Rattle.model.specs.File.{cells, ringed, ceilingOffset, weightOffset,
 use Rattle.model.proofs.Integers.{sub-pos, sub-lt, sub-le, by-order}
 use Rattle.model.proofs.Lists.{tabulate-length, tabulate-at, first-hit}
 use Rattle.model.proofs.Checks.{within, failIf-pass, failFirst-pass}
-use Rattle.model.proofs.File.{pass-both, NumbersPassed, gauge-passes, gauge-shape, wedge-low, read-values}
+use Rattle.model.proofs.File.{NumbersPassed, gauge-passes, gauge-shape, wedge-low, read-values}
 
 -- ---- an accepted film passes its tests: the converse of what passed tests say
 

@@ -1,6 +1,5 @@
 -- Document 01, "A line offer": K, the least whole number, 0 included, with K × dominance at least the sum of inside links at every cell.
-use mathlib.Core.List.{List}
-use Prim.Native.Nat.{ℕ, _*_}
+use Prim.Native.Nat.{ℕ}
 use Rattle.monotone.specs.Links.{pull}
 use Rattle.monotone.specs.Linear.{requiredOf}
 use Rattle.model.specs.Lists.{greatest}

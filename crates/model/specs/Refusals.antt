@@ -5,7 +5,6 @@ use lib.Dec.{ltb}
 use Rattle.model.specs.Lists.{firstOf}
 use Rattle.model.specs.declared.Fault.{Fault}
 use Rattle.model.specs.declared.Fault.the-variants as faults
-use Rattle.model.specs.declared.Refusal.{Refusal}
 use Rattle.model.specs.declared.Tested.{Tested}
 use Rattle.model.specs.declared.Tested.the-variants as tests
 

@@ -1,15 +1,14 @@
 -- Document 01, "A visit".
 use mathlib.Core.List.{List}
 use Prim.Native.Nat.{ℕ, _+_}
-use lib.Dec.{eqb}
 use mathlib.Core.Bool.{true}
 use lib.IntN.{ℤ}
-use lib.ListN.{length, getD, set}
+use lib.ListN.{getD, set}
 use Rattle.monotone.specs.Linear.{requiredOf}
 use Rattle.monotone.specs.Sweep as theory
 use Rattle.model.specs.Integers.{lift, drop}
 use Rattle.model.specs.Refusals.{Check, pass, fail, numberOf}
-use Rattle.model.specs.Film.{Film, sizeOf, diagonalAt, sourceAt, pullOf, slack}
+use Rattle.model.specs.Film.{Film, diagonalAt, sourceAt, pullOf, slack}
 use Rattle.model.specs.Checks.{fieldCheck, cellCheck}
 use Rattle.model.specs.Result.{Result}
 use Rattle.model.specs.declared.Relaxed.{Relaxed}

@@ -1,11 +1,10 @@
 -- Document 01, "The report": the text's bytes, from the file's bytes.
-use mathlib.Core.Bool.{Bool, true, false, cond}
+use mathlib.Core.Bool.{false, cond}
 use mathlib.Core.List.{List, [], _∷_, _++_}
-use Prim.Native.Nat.{ℕ, zero, suc, _+_, _*_, _/_, _%_}
+use Prim.Native.Nat.{ℕ, zero, suc, _+_, _/_, _%_}
 use lib.Dec.{ltb}
 use lib.IntN.{ℤ, pos, negsuc}
 use lib.ListN.{getD, replicate}
-use Rattle.model.specs.Gauge.{Gauge}
 use Rattle.model.specs.Film.{Film, sizeOf, rowOf, columnOf, slack}
 use Rattle.model.specs.Coefficients.{formed}
 use Rattle.model.specs.Result.{Result}

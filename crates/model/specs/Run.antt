@@ -1,7 +1,7 @@
 -- Document 01, "A run".
 use mathlib.Core.Bool.{Bool, true, false}
 use mathlib.Core.List.{List}
-use Prim.Native.Nat.{ℕ, zero, suc, _+_, _-_, _*_, _/_, _%_}
+use Prim.Native.Nat.{ℕ, zero, suc, _+_, _-_, _/_, _%_}
 use lib.Dec.{eqb}
 use Rattle.monotone.specs.Ordering.{splitOrder}
 use Rattle.monotone.specs.Linear.{ruleOf}

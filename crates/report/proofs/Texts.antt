@@ -16,7 +16,7 @@ use Rattle.model.specs.Film.{Film, filmOf, sizeOf, systemOf, beside, across, ne
 use Rattle.model.specs.Coefficients.{formed}
 use Rattle.model.specs.Checks.{orderCheck}
 use Rattle.model.specs.Accepted.{Accepted}
-use Rattle.model.specs.Result.{Result, Gives}
+use Rattle.model.specs.Result.{Gives}
 use Rattle.model.specs.Run.{RunAnswer, done, stopped, over, refused, runBy, runCall}
 use Rattle.model.specs.Gauge.{Gauge}
 use Rattle.model.specs.File.{gaugeCheck, Bytes, Values}

@@ -1,7 +1,7 @@
 -- A run's counts from a sweep's, and what proposals before it leave.
 use mathlib.Core.Path.{_≡_}
 use mathlib.Core.List.{List}
-use Prim.Native.Nat.{ℕ, _≤_}
+use Prim.Native.Nat.{ℕ}
 use Rattle.model.specs.Run.{Readied}
 use Rattle.model.specs.declared.Counts.{Counts}
 use Rattle.sweep.specs.declared.Counter.{Counter}

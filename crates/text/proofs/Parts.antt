@@ -2,9 +2,8 @@
 use mathlib.Core.Path.{_≡_, sym, ap, _∙_}
 use mathlib.Core.List.{List, [], _∷_, _++_, append-assoc}
 use Prim.Native.Nat.{ℕ}
-use lib.IntN.{ℤ}
-use Rattle.model.specs.Report.{_␣_, line, decimal, signed, filmWord, ceilingWord, peakWord}
-use Rattle.text.specs.Writes.{pair, headText, cellText, peakText}
+use Rattle.model.specs.Report.{_␣_, line, decimal, filmWord, ceilingWord, peakWord}
+use Rattle.text.specs.Writes.{pair, headText, peakText}
 
 abbrev pub space : List ℕ
 space = 32 ∷ []

@@ -10,7 +10,7 @@ use lib.IntN.{ℤ, pos, negsuc}
 use lib.Signed.{ltZ}
 use borrow.Author.Tests.{ltb-true}
 use lib.ListN.{length, length-append, getD, set, take, drop}
-use lib.Seq.{sets, sets-eq, length-sets, take-suc, take-length, length-take-le, drop-length}
+use lib.Seq.{sets, sets-eq, length-sets, take-suc, take-length, drop-length}
 use Rattle.model.specs.Integers.{lift as liftOf, drop as dropOf}
 use Rattle.model.specs.Report.{decimal, signed}
 use Rattle.text.specs.Writes.{Fits, Writes}

@@ -1,6 +1,6 @@
 -- `render::put_cells` meets its contract.
 use mathlib.Core.Path.{_≡_, subst}
-use mathlib.Core.List.{List, []}
+use mathlib.Core.List.{[]}
 use Prim.Native.Nat.{ℕ, _*_, _-_, _<_, _≤_}
 use native.Mathlib.Omega.{arith}
 use denote.Ref.{now}
@@ -8,7 +8,7 @@ use lib.ListN.{length}
 use borrow.Author.Needs.{needs}
 use Rattle.model.specs.Film.{Film, filmOf}
 use Rattle.model.specs.Report.{cellLines}
-use Rattle.text.specs.Writes.{Fits, Writes}
+use Rattle.text.specs.Writes.{Writes}
 use Rattle.text.proofs.Writes.{writes-length}
 use Rattle.render.proofs.Cells.{lines-none, lines-next, line-fits}
 use Rattle.render.proofs.put_cells.Statement.{statement}

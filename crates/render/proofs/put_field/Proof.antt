@@ -5,9 +5,8 @@ use Prim.Native.Nat.{ℕ, _*_, _≤_, _<_}
 use native.Mathlib.Nat.{mul-le-mul}
 use native.Mathlib.Omega.{arith}
 use denote.Ref.{now}
-use lib.ListN.{length}
 use Rattle.model.specs.Film.{Film, filmOf}
-use Rattle.model.specs.Report.{peakOf, cellLines, peakLine}
+use Rattle.model.specs.Report.{peakOf, peakLine}
 use Rattle.grid.proofs.Limited.{size-low}
 use Rattle.text.specs.Writes.{Fits, Writes, peakText}
 use Rattle.render.proofs.Greatest.{peak-inside, peak-line}

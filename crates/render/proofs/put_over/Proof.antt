@@ -1,8 +1,5 @@
 -- `render::put_over` meets its contract.
-use mathlib.Core.Path.{sym, subst}
-use Prim.Native.Nat.{ℕ, _+_, _/_, _%_}
 use Rattle.model.specs.Report.{overWord, answerLine}
-use Rattle.text.specs.Writes.{pair}
 use Rattle.text.proofs.Writes.{fits-first, fits-rest, writes-then}
 use borrow.Author.Needs.{needs}
 use Rattle.render.proofs.put_over.Statement.{statement}

@@ -1,10 +1,9 @@
 -- `report::put_film` meets its contract.
-use mathlib.Core.Path.{_≡_, sym, ap, _∙_, subst}
-use mathlib.Core.List.{List, []}
-use Prim.Native.Nat.{ℕ, _*_, _≤_}
+use mathlib.Core.Path.{_≡_, sym, subst}
+use Prim.Native.Nat.{_≤_}
 use native.Mathlib.Omega.{arith}
 use denote.Ref.{now}
-use lib.ListN.{length, take, replicate}
+use lib.ListN.{length, take}
 use lib.Seq.{length-take-le}
 use mir.Facts.{toZ-ofZ}
 use Rattle.model.specs.Gauge.{Gauge}
@@ -16,7 +15,6 @@ use Rattle.model.specs.Report.{filmReport}
 use Rattle.model.proofs.File.{gauge-passes, gauge-shape}
 use Rattle.model.proofs.Forming.{formed-accepted}
 use Rattle.grid.proofs.Limited.{size-low}
-use Rattle.gauge.specs.Cell.{Forming}
 use Rattle.text.specs.Writes.{Fits, Writes}
 use Rattle.report.proofs.Texts.{film-formed, take-zeros}
 use borrow.Author.Needs.{needs}

@@ -1,6 +1,5 @@
 -- `report_vectors::main` meets its contract.
 use Prim.Native.Nat.{_-_, _≤_}
-use native.Mathlib.Omega.{arith}
 use borrow.Author.Needs.{needs}
 use Rattle.report_vectors.proofs.main.Statement.{statement}
 use Rattle.report_vectors.proofs.main.Tie as tie
