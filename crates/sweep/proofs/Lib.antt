@@ -2,3 +2,4 @@
 pub mod Relaxation
 pub mod Turn
 pub mod Film
+pub mod Local

@@ -102,13 +102,23 @@ pub fn counted(c: Counter, v: Visit) -> Counter
     }
 }
 
-// The visit step: the field is written and the counter moves on.
+// The visit step: the field is written, and the lent counter moves on.
+fn visit_step(field: &mut [u32], at: usize, target: u64, ceiling: u32, c: &mut Counter) -> Visit
+    requires { ⌜ (at < length (now field)) × Room (now c) ⌝ }
+    ensures { λ r. ⌜ Stepped (now (field .entry)) at target ceiling (now (c .entry)) (record { visit = r; counter = now (c .exit) }) (now (field .exit)) ⌝ }
+{
+    let visit = visit_at(field, at, target, ceiling);
+    *c = counted(*c, visit);
+    visit
+}
+
+// The visit step with plain parameters: the counter is lent from a local.
 pub fn stepped(field: &mut [u32], at: usize, target: u64, ceiling: u32, c: Counter) -> After
     requires { ⌜ (at < length (now field)) × Room c ⌝ }
     ensures { λ r. ⌜ Stepped (now (field .entry)) at target ceiling c r (now (field .exit)) ⌝ }
 {
-    let visit = visit_at(field, at, target, ceiling);
-    let counter = counted(c, visit);
+    let mut counter = c;
+    let visit = visit_step(field, at, target, ceiling, &mut counter);
     After { visit, counter }
 }
 
