@@ -1,9 +1,8 @@
 -- The sweep by index over a table is the film's own sweep in its ordering.
-use mathlib.Core.Path.{_≡_, ap, _∙_, sym}
+use mathlib.Core.Path.{_≡_, ap, _∙_}
 use mathlib.Core.List.{List}
 use Prim.Native.Nat.{ℕ, _<_}
-use native.Mathlib.Omega.{arith}
-use lib.ListN.{length, getD}
+use lib.ListN.{length}
 use Rattle.monotone.specs.Ordering.{Permutes}
 use Rattle.monotone.specs.Linear.{ruleOf}
 use Rattle.monotone.specs.Sweep.{begin, sweep}

@@ -3,8 +3,8 @@
 //
 // Proved: the answer, its counts and the field are those of the theory's sweep under the film's rule, read by index.
 ghost use mathlib.Core.Path.{_≡_};
-ghost use Prim.Native.Nat.{ℕ, _≤_, _<_, _^_};
-ghost use lib.ListN.{length, getD};
+ghost use Prim.Native.Nat.{_<_};
+ghost use lib.ListN.{length};
 ghost use Rattle.monotone.specs.Sweep.{next};
 ghost use Rattle.grid.specs.Pull.{Loaded};
 ghost use Rattle.sweep.specs.Rule.{ruleBy, requiredBy};
