@@ -5,7 +5,6 @@
 // data/, args and stdout are written by bench/film_files.py, from document 01 alone: it shares no line with this program, works
 // in Python's whole numbers, and each faulty file carries its refusal's number and place written by hand.
 use libc::STDOUT_FILENO;
-use model::Fault;
 use model::Formed;
 use model::Head;
 use model::Loaded;
@@ -30,30 +29,10 @@ fn signed(x: i64) {
     }
 }
 
-// A refusal's number in document 01's table.
-fn number_of(fault: Fault) -> u64 {
-    match fault {
-        Fault::Truncated => 1,
-        Fault::Unexpected => 2,
-        Fault::WrongLength => 3,
-        Fault::BadShape => 4,
-        Fault::BadCeiling => 5,
-        Fault::ZeroWeight => 6,
-        Fault::BadThickness => 7,
-        Fault::BadWedge => 8,
-        Fault::NotDominant => 9,
-        Fault::WrongBuffer => 10,
-        Fault::BadOrder => 11,
-        Fault::StartAboveCeiling => 12,
-        Fault::OutOfGrid => 13,
-        Fault::BadCoefficient => 14,
-    }
-}
-
 fn refused(r: Refusal) {
     let fault = r.fault;
     text(b"REFUSED");
-    spaced(number_of(fault));
+    spaced(render::number_of(fault));
     spaced(r.place as u64);
     text(b"\n");
 }
@@ -84,20 +63,6 @@ fn signed_numbers(word: &[u8], xs: &[i64]) {
         i += 1;
     }
     text(b"\n");
-}
-
-fn same(a: &[u8], b: &[u8]) -> bool {
-    if a.len() != b.len() {
-        return false;
-    }
-    let mut i = 0;
-    while i < a.len() {
-        if a[i] != b[i] {
-            return false;
-        }
-        i += 1;
-    }
-    true
 }
 
 fn coefficients_in(
@@ -160,7 +125,7 @@ fn write_back(
 ) {
     match file::write(head, weights, thicknesses, wedge, out) {
         Saved::Written => {
-            if same(file, &out[..]) {
+            if check::same(file, &out[..]) {
                 text(b"WRITES BACK THE SAME\n");
             } else {
                 text(b"WRITES BACK ANOTHER FILE\n");

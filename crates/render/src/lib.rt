@@ -56,7 +56,7 @@ fn peak(field: &[u32]) -> usize
 }
 
 // A refusal's number in document 01's table.
-fn number_of(fault: Fault) -> u64
+pub fn number_of(fault: Fault) -> u64
     ensures { λ r. ⌜ r ≡ numberOf fault ⌝ }
 {
     match fault {
