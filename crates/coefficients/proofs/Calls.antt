@@ -33,14 +33,23 @@ module _ (h : Head) (weights thicknesses : List ℕ) (wedge : ℤ) (diagonals ri
   abbrev pub g : Gauge
   g = gaugeOf h weights thicknesses wedge
 
-  -- each of the four slices has a place for each cell
-  abbrev pub fourFit : Bool
-  fourFit =
-      let n = cells (g .rows) (g .columns) in
-      eqb (length diagonals) n && eqb (length rights) n && eqb (length ups) n && eqb (length sources) n
+  -- each of the four slices has n places
+  abbrev pub fourHave : ℕ → Bool
+  fourHave n = eqb (length diagonals) n && eqb (length rights) n && eqb (length ups) n && eqb (length sources) n
 
-  pub form-tested : {r : Check} → r ≡ gaugeCheck g (gaugeFits g && fourFit) → r ≡ formCheck g diagonals rights ups sources
-  form-tested e = e ∙ ap (gaugeCheck g) (simp and-assoc)
+  abbrev pub fourFit : Bool
+  fourFit = fourHave (cells (g .rows) (g .columns))
+
+  -- the tests, from what they found of the numbers as the code has them
+  pub form-tested : {r : Check} {n : ℕ} {w : ℤ} → n ≡ cells (g .rows) (g .columns) → w ≡ wedge
+      → r ≡ gaugeCheck (gaugeOf h weights thicknesses w) (gaugeFits (gaugeOf h weights thicknesses w) && fourHave n)
+      → r ≡ formCheck g diagonals rights ups sources
+  form-tested n w e = (rw (n, w) at e) ∙ ap (gaugeCheck g) (simp and-assoc)
+
+  -- and what was formed
+  pub wedge-formed : {w : ℤ} {diagonals′ rights′ ups′ : List ℕ} {sources′ : List ℤ} → w ≡ wedge
+      → Forming (gaugeOf h [] thicknesses w) diagonals′ rights′ ups′ sources′ → Forming (gaugeOf h [] thicknesses wedge) diagonals′ rights′ ups′ sources′
+  wedge-formed w f = rw w at f
 
   record Lengths : Type 0 where
     diagonals-len : length diagonals ≡ cells (g .rows) (g .columns)

@@ -4,7 +4,7 @@ use denote.Ref.{now}
 use mir.Facts.{toZ-ofZ}
 use Rattle.model.specs.Refusals.{Check, checkOf}
 use Rattle.model.specs.FileCalls.{gaugeOf, formCheck}
-use Rattle.coefficients.proofs.Calls.{form-tested, form-ready, form-written, form-refused}
+use Rattle.coefficients.proofs.Calls.{form-tested, wedge-formed, form-ready, form-written, form-refused}
 use borrow.Author.Needs.{needs}
 use Rattle.coefficients.proofs.form.Statement.{statement}
 use Rattle.coefficients.proofs.form.Tie as tie
@@ -20,7 +20,7 @@ tested t =
     let s = t .before .before .before .before .before .before .before in
     let a = s .args in
     form-tested (a .head) (now (a .weights)) (now (a .thicknesses)) (a .wedge) (now (a .diagonals)) (now (a .rights)) (now (a .ups)) (now (a .sources))
-    (rw (t .before .area .ensures, toZ-ofZ (s .fits .wedge)) at (t .gauge-tests .ensures))
+    (t .before .area .ensures) (toZ-ofZ (s .fits .wedge)) (t .gauge-tests .ensures)
 
 area-requires : tie.Need-area-requires
 area-requires c κs = search needs
@@ -61,7 +61,7 @@ returns c =
     let a = s .args in
     let e = sym (tested t) ∙ ap checkOf (f .before .before .before .before .before .enum-told .given .1) in
     form-written (a .head) (now (a .weights)) (now (a .thicknesses)) (a .wedge) (now (a .diagonals)) (now (a .rights)) (now (a .ups)) (now (a .sources)) e
-    (rw (toZ-ofZ (s .fits .wedge)) at (f .form .ensures)) (
+    (wedge-formed (a .head) (now (a .weights)) (now (a .thicknesses)) (a .wedge) (now (a .diagonals)) (now (a .rights)) (now (a .ups)) (now (a .sources)) (toZ-ofZ (s .fits .wedge)) (f .form .ensures)) (
     record {
       diagonals-kept = f .form .kept .1 .1 .1 .0;
       rights-kept = f .form .kept .1 .1 .1 .1 .0;

@@ -1,8 +1,21 @@
 -- `sweep::judged` meets its contract.
+use mathlib.Core.Path.{_≡_}
+use mathlib.Core.Bool.{cond}
+use Prim.Native.Nat.{ℕ}
+use lib.Dec.{eqb}
 use borrow.Author.Needs.{needs}
 use borrow.Author.Tests.{eq-eqb, ne-eqb}
+use Rattle.sweep.specs.declared.Counter.{Counter}
+use Rattle.sweep.specs.declared.Step.the-variants as steps
 use Rattle.sweep.proofs.judged.Statement.{statement}
 use Rattle.sweep.proofs.judged.Tie as tie
+
+-- quiet relaxations that make a whole round of n end the sweep, and others do not
+round-whole : (c : Counter) (n : ℕ) → c .quiet ≡ n → steps.Done c ≡ cond (eqb (c .quiet) n) (steps.Done c) (steps.On c)
+round-whole c n e = rw (eq-eqb _ _ e)
+
+round-part : (c : Counter) (n : ℕ) → ((c .quiet ≡ n) → ⊥) → steps.On c ≡ cond (eqb (c .quiet) n) (steps.Done c) (steps.On c)
+round-part c n e = rw (ne-eqb _ _ e)
 
 enum-told : tie.Need-enum-told
 enum-told c = search needs
@@ -17,10 +30,10 @@ enum-told-3 : tie.Need-enum-told-3
 enum-told-3 c = search needs
 
 returns : tie.Need-returns
-returns c = rw (c .before .before .enum-told .given .1, eq-eqb _ _ (c .if1 .taken))
+returns c = let a = c .before .before .before .before .before .args in rw (c .before .before .enum-told .given .1) (round-whole (a .after .counter) (a .n) (c .if1 .taken))
 
 returns-2 : tie.Need-returns-2
-returns-2 c = rw (c .before .before .enum-told .given .1, ne-eqb _ _ (c .if1 .left))
+returns-2 c = let a = c .before .before .before .before .before .args in rw (c .before .before .enum-told .given .1) (round-part (a .after .counter) (a .n) (c .if1 .left))
 
 returns-3 : tie.Need-returns-3
 returns-3 c = rw (c .enum-told2 .given .1)
