@@ -8,9 +8,22 @@ ghost use Rattle.model.specs.Lists.{tabulate};
 ghost use Rattle.model.specs.Refusals.{checkOf};
 ghost use Rattle.model.specs.Bytes.{byteAt, wordAt, long};
 ghost use Rattle.model.specs.File.{weightOffset, fieldAt, field as fieldOf, weightBytes};
-ghost use Rattle.file.specs.Tags.{bodyLength};
+ghost use Rattle.file.specs.Tags.{bodyLength, behind};
 use model::Fault;
 use model::Tested;
+
+// A file's bytes and a position in them: the reader walks a file as this view. Only `viewed`, `moved` and `walk_field` take it apart or
+// make it.
+pub struct View<'a> {
+    pub bytes: &'a [u8],
+    pub at: usize,
+}
+
+// What the test of a field found, and the offset that the walk has come to.
+pub struct Walked {
+    pub tested: Tested,
+    pub next: usize,
+}
 
 // The length of a field's body, for n cells and t thicknesses: each tag has one. Other tags have none.
 fn body_length(tag: u8, n: usize, t: usize) -> usize
@@ -28,7 +41,7 @@ fn body_length(tag: u8, n: usize, t: usize) -> usize
 }
 
 // Refusals 1, 2 and 3: a header at `at`, with that tag and that length, and the whole body after it.
-pub fn field_at(file: &[u8], at: usize, tag: u8, size: usize) -> Tested
+fn field_at(file: &[u8], at: usize, tag: u8, size: usize) -> Tested
     requires { ⌜ (at ≤ 4096) × (size ≤ 4096) ⌝ }
     ensures { λ r. ⌜ checkOf r ≡ fieldAt (now (file .entry)) at tag size ⌝ }
 {
@@ -45,12 +58,55 @@ pub fn field_at(file: &[u8], at: usize, tag: u8, size: usize) -> Tested
     )
 }
 
-// The field with a tag at an offset, in the file of a film with n cells and t thicknesses.
-pub fn field(file: &[u8], at: usize, tag: u8, n: usize, t: usize) -> Tested
-    requires { ⌜ (at ≤ 4096) × (n ≤ 1024) × (t ≤ 1156) ⌝ }
-    ensures { λ r. ⌜ checkOf r ≡ fieldAt (now (file .entry)) at tag (bodyLength tag n t) ⌝ }
+// The offset behind a field's header and body.
+fn next_at(at: usize, size: usize) -> usize
+    requires { ⌜ (at ≤ 4096) × (size ≤ 4096) ⌝ }
+    ensures { λ r. ⌜ r ≡ behind at size ⌝ }
 {
-    field_at(file, at, tag, body_length(tag, n, t))
+    at + 3 + size
+}
+
+// The test of the field where a view stands.
+fn viewed<'a>(view: View<'a>, tag: u8, size: usize) -> Tested
+    requires { ⌜ (view .at ≤ 4096) × (size ≤ 4096) ⌝ }
+    ensures { λ r. ⌜ checkOf r ≡ fieldAt (now (view .entry .bytes)) (view .entry .at) tag size ⌝ }
+{
+    field_at(view.bytes, view.at, tag, size)
+}
+
+// The view behind the field where it stands.
+fn moved<'a>(view: View<'a>, size: usize) -> View<'a>
+    requires { ⌜ (view .at ≤ 4096) × (size ≤ 4096) ⌝ }
+    ensures { λ q. ⌜ (q .bytes ≡ view .entry .bytes) × (q .at ≡ behind (view .entry .at) size) ⌝ }
+{
+    let at = next_at(view.at, size);
+    View {
+        bytes: view.bytes,
+        at,
+    }
+}
+
+// A step of the walk: the view at an offset tests its field and moves behind it. It takes and answers plain values, so that its callers
+// need not know of views.
+fn walk_field(file: &[u8], at: usize, tag: u8, size: usize) -> Walked
+    requires { ⌜ (at ≤ 4096) × (size ≤ 4096) ⌝ }
+    ensures { λ w. ⌜ (checkOf (w .tested) ≡ fieldAt (now (file .entry)) at tag size) × (w .next ≡ behind at size) ⌝ }
+{
+    let view = View { bytes: file, at };
+    let tested = viewed(view, tag, size);
+    let passed = moved(view, size);
+    Walked {
+        tested,
+        next: passed.at,
+    }
+}
+
+// The field with a tag at an offset, in the file of a film with n cells and t thicknesses.
+pub fn field(file: &[u8], at: usize, tag: u8, n: usize, t: usize) -> Walked
+    requires { ⌜ (at ≤ 4096) × (n ≤ 1024) × (t ≤ 1156) ⌝ }
+    ensures { λ w. ⌜ (checkOf (w .tested) ≡ fieldAt (now (file .entry)) at tag (bodyLength tag n t)) × (w .next ≡ behind at (bodyLength tag n t)) ⌝ }
+{
+    walk_field(file, at, tag, body_length(tag, n, t))
 }
 
 // The weights that stand in a file, into the first n places of a table.

@@ -13,7 +13,7 @@ ghost use Rattle.model.specs.Bytes.{byteAt};
 ghost use Rattle.model.specs.File.{rowsOffset, columnsOffset, fieldAt, gaugeIn, fileOf};
 ghost use Rattle.model.specs.FileCalls.{gaugeOf, headOf, saveCall, saveAnswerOf, Loads, loadAnswerOf};
 ghost use Rattle.gauge.specs.Tests.{Measured};
-ghost use Rattle.file.specs.Tags.{fileLength, Ready};
+ghost use Rattle.file.specs.Tags.{bodyLength, behind, fileLength, Ready};
 ghost use Rattle.file.specs.Reading.{valueCheck, fieldTest, restCheck, filmIn, LoadsBy};
 use model::Fault;
 use model::Head;
@@ -24,6 +24,8 @@ use model::Tested;
 mod numbers; // numbers.rt: numbers at an offset of a file
 mod put; // put.rt: numbers written into a slice
 mod fields; // fields.rt: a file's fields
+
+use fields::Walked;
 
 // The length of the file of a film with so many rows and columns; 0 if a side is beyond its limit.
 fn file_length(rows: u32, columns: u32) -> usize
@@ -78,7 +80,7 @@ fn head_in(file: &[u8]) -> Head
 fn shape_field(file: &[u8]) -> Tested
     ensures { λ r. ⌜ checkOf r ≡ (fieldAt (now (file .entry)) 0 1 2 orElse shapeCheck (byteAt (now (file .entry)) rowsOffset) rowsOffset (byteAt (now (file .entry)) columnsOffset) columnsOffset) ⌝ }
 {
-    let header = fields::field(file, 0, 1, 0, 0);
+    let header = fields::field(file, 0, 1, 0, 0).tested;
     let rows = numbers::byte_at(file, 3) as u32;
     let columns = numbers::byte_at(file, 4) as u32;
     checks::or_else(header, gauge::shape_test(rows, columns))
@@ -98,7 +100,7 @@ fn value_test(tag: u8, head: Head, weights: &[u16], thicknesses: &[u8], wedge: i
     }
 }
 
-// A field with its values.
+// A field with its values, and the offset behind it.
 fn field_test(
     file: &[u8],
     at: usize,
@@ -107,31 +109,43 @@ fn field_test(
     weights: &[u16],
     thicknesses: &[u8],
     wedge: i32,
-) -> Tested
+) -> Walked
     requires { ⌜ (at ≤ 4096) × (length (now weights) ≤ 1024) × (length (now thicknesses) ≤ 1156) ⌝ }
-    ensures { λ r. ⌜ checkOf r ≡ fieldTest (now (file .entry)) at tag (gaugeOf head (now (weights .entry)) (now (thicknesses .entry)) wedge) ⌝ }
+    ensures { λ w. ⌜ (checkOf (w .tested) ≡ fieldTest (now (file .entry)) at tag (gaugeOf head (now (weights .entry)) (now (thicknesses .entry)) wedge)) × (w .next ≡ behind at (bodyLength tag (length (now (weights .entry))) (length (now (thicknesses .entry))))) ⌝ }
 {
-    let header = fields::field(file, at, tag, weights.len(), thicknesses.len());
-    checks::or_else(header, value_test(tag, head, weights, thicknesses, wedge))
+    let walked = fields::field(file, at, tag, weights.len(), thicknesses.len());
+    let header = walked.tested;
+    let values = value_test(tag, head, weights, thicknesses, wedge);
+    Walked {
+        tested: checks::or_else(header, values),
+        next: walked.next,
+    }
 }
 
-// The fields after the shape, each with its values; and that nothing follows them.
+// What two fields' tests found: the earlier field's refusal comes first.
+fn both(one: Walked, other: Walked) -> Tested
+    ensures { λ r. ⌜ checkOf r ≡ (checkOf (one .tested) orElse checkOf (other .tested)) ⌝ }
+{
+    let first = one.tested;
+    let second = other.tested;
+    checks::or_else(first, second)
+}
+
+// The fields after the shape, each with its values; and that nothing follows them. Each field says where the next one stands, so the
+// walk goes over the shape's field once more: the second field stands behind it.
 fn rest_test(file: &[u8], head: Head, weights: &[u16], thicknesses: &[u8], wedge: i32) -> Tested
     requires { ⌜ (length (now weights) ≤ 1024) × (length (now thicknesses) ≤ 1156) ⌝ }
     ensures { λ r. ⌜ checkOf r ≡ restCheck (now (file .entry)) (gaugeOf head (now (weights .entry)) (now (thicknesses .entry)) wedge) ⌝ }
 {
-    let n = weights.len();
-    let t = thicknesses.len();
-    let end = 25 + 2 * n + t;
-    let second = field_test(file, 5, 2, head, weights, thicknesses, wedge);
-    let third = field_test(file, 12, 3, head, weights, thicknesses, wedge);
-    let fourth = field_test(file, 15 + 2 * n, 4, head, weights, thicknesses, wedge);
-    let fifth = field_test(file, 18 + 2 * n + t, 5, head, weights, thicknesses, wedge);
-    let stray = checks::fail_if(end < file.len(), Fault::Unexpected, end);
-    checks::or_else(
-        checks::or_else(second, third),
-        checks::or_else(checks::or_else(fourth, fifth), stray),
-    )
+    let first = fields::field(file, 0, 1, weights.len(), thicknesses.len());
+    let second = field_test(file, first.next, 2, head, weights, thicknesses, wedge);
+    let third = field_test(file, second.next, 3, head, weights, thicknesses, wedge);
+    let fourth = field_test(file, third.next, 4, head, weights, thicknesses, wedge);
+    let fifth = field_test(file, fourth.next, 5, head, weights, thicknesses, wedge);
+    let early = both(second, third);
+    let late = both(fourth, fifth);
+    let stray = checks::fail_if(fifth.next < file.len(), Fault::Unexpected, fifth.next);
+    checks::or_else(early, checks::or_else(late, stray))
 }
 
 // All tests after that of the shape's field: dominance comes last.

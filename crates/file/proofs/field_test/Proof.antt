@@ -1,6 +1,4 @@
 -- `file::field_test` meets its contract.
-
--- `file::field_test` meets its contract.
 use Rattle.checks.proofs.Chain.{joined}
 use mir.Facts.{toZ-ofZ}
 use borrow.Author.Needs.{needs}
@@ -19,7 +17,8 @@ or-else-requires c κs = search needs
 returns : tie.Need-returns
 returns c =
     let wedge = toZ-ofZ (c .before .before .before .before .before .before .fits .wedge) in
-    joined (c .or-else .ensures) (c .before .before .field .ensures) (rw wedge at (c .before .value-test .ensures))
+    let walked = c .before .before .field .ensures in
+    (joined (c .or-else .ensures) (walked .0) (rw wedge at (c .before .value-test .ensures)), walked .1)
 
 pub field-test-spec : {M : Type 1} → statement M
 field-test-spec = tie.close (tie.spec field-requires value-test-requires or-else-requires returns)

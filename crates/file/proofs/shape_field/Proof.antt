@@ -31,7 +31,7 @@ returns : tie.Need-returns
 returns c =
     let columns = c .before .before in
     let rows = columns .before in
-    joined (c .or-else .ensures) (rows .before .field .ensures)
+    joined (c .or-else .ensures) (rows .before .field .ensures .0)
     (rw (rows .byte-at .ensures, columns .byte-at2 .ensures) at (c .before .shape-test .ensures))
 
 pub shape-field-spec : {M : Type 1} → statement M

@@ -8,11 +8,11 @@ use Rattle.file.proofs.fields.field.Tie as tie
 body-length-requires : tie.Need-body-length-requires
 body-length-requires c κs = search needs
 
-field-at-requires : tie.Need-field-at-requires
-field-at-requires c κs = (omega arith, rw (c .body-length .ensures) (body-low (c .before .before .args .tag) _ _ (omega arith) (omega arith)))
+walk-field-requires : tie.Need-walk-field-requires
+walk-field-requires c κs = (omega arith, rw (c .body-length .ensures) (body-low (c .before .before .args .tag) _ _ (omega arith) (omega arith)))
 
 returns : tie.Need-returns
-returns c = rw (c .before .body-length .ensures) at (c .field-at .ensures)
+returns c = rw (c .before .body-length .ensures) at (c .walk-field .ensures)
 
 pub field-spec : {M : Type 1} → statement M
-field-spec = tie.close (tie.spec body-length-requires field-at-requires returns)
+field-spec = tie.close (tie.spec body-length-requires walk-field-requires returns)
