@@ -2,7 +2,7 @@
 use mathlib.Core.Path.{_≡_, refl, sym, ap, _∙_, subst}
 use mathlib.Core.Bool.{Bool, true, not, _&&_}
 use mathlib.Core.List.{List, [], _∷_, _++_}
-use Prim.Native.Nat.{ℕ, _+_, _*_}
+use Prim.Native.Nat.{ℕ, _+_}
 use native.Mathlib.Omega.{arith}
 use borrow.Author.Tests.{eq-eqb, not-false}
 use lib.Dec.{eqb}
@@ -14,7 +14,7 @@ use Rattle.model.specs.Gauge.{Gauge}
 use Rattle.model.specs.Checks.{shapeCheck}
 use Rattle.model.specs.Result.{Gives}
 use Rattle.model.specs.File.{cells, ringed, rowsOffset, columnsOffset, endOffset, gaugeIn, fileCheck, Reading, accepted, readBy, readFilm, fileOf, gaugeCheck, Bytes, Values}
-use Rattle.model.specs.FileCalls.{gaugeOf, headOf, gaugeFits, WriteAnswer, written, writeAnswer, saveCheck, saveCall, LoadAnswer, film, loadAnswer, loadCheck, laidOver, Loads}
+use Rattle.model.specs.FileCalls.{gaugeOf, headOf, WriteAnswer, written, writeAnswer, saveCheck, saveCall, LoadAnswer, film, loadAnswer, loadCheck, laidOver, Loads}
 use Rattle.model.proofs.Checks.{orElse-parts, failIf-pass}
 use Rattle.model.proofs.File.{file-length, written-reads, read-writes, read-values}
 
