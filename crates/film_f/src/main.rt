@@ -41,7 +41,9 @@ fn counts(word: &[u8], c: Counts) {
 }
 
 fn refused(r: Refusal) {
+    let fault = r.fault;
     text(b"REFUSED");
+    spaced(render::number_of(fault));
     spaced(r.place as u64);
 }
 

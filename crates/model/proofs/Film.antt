@@ -13,10 +13,11 @@ use lib.ListN.{length, getD}
 use lib.Seq.{ext-getD}
 use Rattle.monotone.specs.Rule as theory
 use Rattle.monotone.specs.Linear.{ruleOf, Positive}
+use Rattle.monotone.proofs.Order.{⊑-cells}
 use Rattle.monotone.proofs.Linear.{required-enough, required-least, linear-monotone}
 use Rattle.monotone.proofs.History.{least-or-none}
 use Rattle.model.specs.Integers.{negative, atMostZero, lift, drop}
-use Rattle.model.specs.Film.{Film, sizeOf, slackOf, Feasible, Least, systemOf}
+use Rattle.model.specs.Film.{Film, sizeOf, slackOf, Feasible, Least, LeastFrom, systemOf}
 use Rattle.model.specs.Relaxation.{requiredFor}
 use Rattle.model.proofs.Integers.{sub-source, negative-sub, atMostZero-sub}
 use Rattle.model.proofs.Lists.{getD-low}
@@ -67,6 +68,15 @@ module _ (f : Film) (P : Positive (systemOf f)) where
         len = L .feasible .bounded .len;
         under = λ i _ z m. (L .under z (feasible-to m)) .at i;
         taken = λ i _. (q, feasible-from (L .feasible), refl);
+      }
+
+  -- and so is its least field at or above a start
+  pub least-from : {p q : List ℕ} → length p ≡ sizeOf f → theory.LeastAbove (ruleOf (systemOf f)) p q → LeastFrom f p q
+  least-from {p} {q} e L =
+      record {
+        meets = feasible-from (L .feasible);
+        above = λ i _. (L .above) .at i;
+        under = λ i _ z m u. (L .under z (feasible-to m) (⊑-cells (sizeOf f) e u)) .at i;
       }
 
   -- two least fields are the same

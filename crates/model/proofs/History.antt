@@ -8,19 +8,19 @@ use borrow.Author.Tests.{eqb-true}
 use lib.Dec.{eqb}
 use lib.ListN.{length}
 use Rattle.monotone.specs.Field.{total}
-use Rattle.monotone.specs.Rule.{Bounded, LeastAbove}
+use Rattle.monotone.specs.Rule.{Bounded}
 use Rattle.monotone.specs.Linear.{ruleOf}
 use Rattle.monotone.specs.History.{Verdict, Good, zeros, played, Promise}
 use Rattle.monotone.proofs.Linear.{linear-monotone}
 use Rattle.monotone.proofs.History.{zeros-start, good-same, good-proposal, history}
 use Rattle.model.specs.Refusals.{Check, pass, fail}
-use Rattle.model.specs.Film.{Film, sizeOf, Least, systemOf}
+use Rattle.model.specs.Film.{Film, sizeOf, Least, LeastFrom, systemOf}
 use Rattle.model.specs.Checks.{orderCheck, lineCheck, filmCheck, fieldCheck}
 use Rattle.model.specs.Proposal.{lineStart, proposeBy}
 use Rattle.model.specs.Run.{done, runBy, runCall}
 use Rattle.model.specs.History.{Call, runVerdict, after, verdict, calls}
 use Rattle.model.specs.declared.Counts.{Counts}
-use Rattle.model.proofs.Film.{least-is}
+use Rattle.model.proofs.Film.{least-is, least-from}
 use Rattle.model.specs.Accepted.{Accepted}
 use Rattle.model.proofs.Checks.{check-passes, field-passes, accepted-positive}
 use Rattle.model.proofs.Proposal.{propose-rises}
@@ -36,13 +36,14 @@ proposalCheck f line proposal p = fieldCheck f p (eqb (length proposal) (f .colu
 -- A run call on any film and field, refused or not.
 module _ (f : Film) (budget order : ℕ) (on : Bool) (p : List ℕ) where
   -- from any accepted start, Done holds the least field at or above the start that meets the film
-  pub runCall-done-least : (c : Counts) → runCall f budget order on p .answer ≡ done c
-      → LeastAbove (ruleOf (systemOf f)) p (runCall f budget order on p .lent)
+  pub runCall-done-least : (c : Counts) → runCall f budget order on p .answer ≡ done c → LeastFrom f p (runCall f budget order on p .lent)
   runCall-done-least c = go (runCheck f order p) refl
     where
       go : (x : Check) → runCheck f order p ≡ x → runBy x f budget order on p .answer ≡ done c
-          → LeastAbove (ruleOf (systemOf f)) p (runBy x f budget order on p .lent)
-      go pass h e = let P = field-passes f p true (orderCheck order) pass h in run-done-least f (P .film) budget order on p (P .bounded) c e
+          → LeastFrom f p (runBy x f budget order on p .lent)
+      go pass h e =
+          let P = field-passes f p true (orderCheck order) pass h in
+          least-from f (accepted-positive (P .film)) (P .bounded .len) (run-done-least f (P .film) budget order on p (P .bounded) c e)
       go (fail number place) h e = let z : _≡_ {A = ℕ} 0 1 = cc in absurd (omega arith)
 
   -- visits are at most N × (1 + total after − total before)

@@ -15,4 +15,5 @@ pub mod Prefix
 pub mod Forming
 pub mod FilmF
 pub mod Digits
+pub mod Peak
 pub mod Report

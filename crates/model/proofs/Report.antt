@@ -1,6 +1,6 @@
 -- The report: where its cells' lines stand, and that no report is longer than the longest.
 use mathlib.Core.Path.{_≡_, refl, sym, subst₂}
-use mathlib.Core.Bool.{Bool, true, false, cond}
+use mathlib.Core.Bool.{Bool, true, false}
 use mathlib.Core.List.{List, _++_}
 use Prim.Native.Nat.{ℕ, zero, suc, _+_, _-_, _*_, _/_, _%_, _≤_, _<_}
 use native.Mathlib.Nat.{le-refl, le-antisymm, le-of-eq, le-trans, mul-le-mul, mul-pos, div-lt-iff-lt-mul, mod-lt}
@@ -28,6 +28,7 @@ use Rattle.model.proofs.Reynolds.{pull-append}
 use Rattle.model.proofs.Run.{visitsOf, raisesOf, run-budget, run-raises, run-good}
 use Rattle.model.proofs.File.{read-values}
 use Rattle.model.proofs.Forming.{formed-accepted}
+use Rattle.model.proofs.Peak.{peak-below}
 use Rattle.model.proofs.Digits.{width, width-most, decimal-most, decimal-length, decimal-width, signed-length, two-words, three-words, five-words, placed-words, word-placed}
 
 -- ---- the cells' lines, one after another
@@ -85,29 +86,6 @@ room-low rows columns h k =
 
     largest : 32 ≡ rows → 32 ≡ columns → roomOf columns (rows * columns) ≤ 33216
     largest r c = subst₂ (λ (r c : ℕ). roomOf c (r * c) ≤ 33216) r c (le-of-eq room-largest)
-
--- ---- the peak is one of the cells
-
-module _ (p : List ℕ) where
-  -- a choice of two numbers is as low as both
-  either-low : (b : Bool) (x y most : ℕ) → x ≤ most → y ≤ most → cond b x y ≤ most
-  either-low true x y most h k = h
-  either-low false x y most h k = k
-
-  -- one cell more, and the first n cells
-  peak-more : (n : ℕ) → peakOf p n ≤ n → peakOf p (suc n) ≤ n
-  unfolding peakOf
-  peak-more n h = either-low (ltb (getD p (peakOf p n) 0) (getD p n 0)) n (peakOf p n) n (le-refl n) h
-
-  peak-within : (n : ℕ) → peakOf p n ≤ n
-  unfolding peakOf
-  peak-within zero = le-refl 0
-  peak-within (suc n) = omega (arith, peak-more n (peak-within n))
-
-  -- where there are cells
-  pub peak-below : (n : ℕ) → 0 < n → peakOf p n < n
-  peak-below zero h = absurd (omega arith)
-  peak-below (suc n) h = omega (arith, peak-more n (peak-within n))
 
 -- ---- the lines of a film within its limits, for a field within the ceiling
 

@@ -110,6 +110,13 @@ pub record Least (f : Film) (q : List ℕ) : Type 0 where
   pub under : (i : ℕ) → i < sizeOf f → (z : List ℕ) → Feasible f z → getD q i 0 ≤ getD z i 0
   pub taken : (i : ℕ) → i < sizeOf f → (z : List ℕ) × Feasible f z × (getD z i 0 ≡ getD q i 0)
 
+-- document 01: the least field at or above a start that meets the film
+pub record LeastFrom (f : Film) (start q : List ℕ) : Type 0 where
+  pub meets : Feasible f q
+  pub above : (i : ℕ) → i < sizeOf f → getD start i 0 ≤ getD q i 0
+  pub under : (i : ℕ) → i < sizeOf f → (z : List ℕ) → Feasible f z → ((j : ℕ) → j < sizeOf f → getD start j 0 ≤ getD z j 0)
+      → getD q i 0 ≤ getD z i 0
+
 -- the film's complementarity problem, as the theory takes it
 abbrev pub systemOf : Film → System
 systemOf f =

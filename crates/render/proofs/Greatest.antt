@@ -8,7 +8,7 @@ use borrow.Author.Tests.{lt-ltb, le-ltb}
 use lib.ListN.{length, getD}
 use Rattle.model.specs.Film.{Film, sizeOf, rowOf, columnOf}
 use Rattle.model.specs.Report.{higher, peakOf, peakLine}
-use Rattle.model.proofs.Report.{peak-below}
+use Rattle.model.proofs.Peak.{peak-below}
 use Rattle.text.specs.Writes.{peakText}
 
 pub record Peaked (p : List ℕ) (i best : ℕ) : Type 0 where
