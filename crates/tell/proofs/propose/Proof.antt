@@ -1,0 +1,38 @@
+-- `tell::propose` meets its contract.
+use mathlib.Core.Path.{refl}
+use borrow.Author.Needs.{needs}
+use Rattle.tell.proofs.propose.Statement.{statement}
+use Rattle.tell.proofs.propose.Tie as tie
+
+enum-known-answer : tie.Need-enum-known-answer
+enum-known-answer c = search needs
+
+enum-told : tie.Need-enum-told
+enum-told c = search needs
+
+enum-known-answer-2 : tie.Need-enum-known-answer-2
+enum-known-answer-2 c = search needs
+
+refused-requires : tie.Need-refused-requires
+refused-requires c κs = search needs
+
+returns : tie.Need-returns
+returns c = rw (c .before .before .answer .given .1) (record { told = record { number-is = refl; place-is = refl }; result-is = refl })
+
+returns-2 : tie.Need-returns-2
+returns-2 c = search needs
+
+returns-3 : tie.Need-returns-3
+returns-3 c = search needs
+
+pub propose-spec : {M : Type 1} → statement M
+propose-spec =
+    tie.close
+    (tie.spec
+    enum-known-answer
+    enum-told
+    enum-known-answer-2
+    refused-requires
+    returns
+    returns-2
+    returns-3)

@@ -1,0 +1,25 @@
+-- `tell::slack` meets its contract.
+use mathlib.Core.Path.{refl}
+use mir.Facts.{toZ-ofZ}
+use borrow.Author.Needs.{needs}
+use Rattle.tell.proofs.slack.Statement.{statement}
+use Rattle.tell.proofs.slack.Tie as tie
+
+enum-known-answer : tie.Need-enum-known-answer
+enum-known-answer c = search needs
+
+enum-known-answer-2 : tie.Need-enum-known-answer-2
+enum-known-answer-2 c = search needs
+
+refused-requires : tie.Need-refused-requires
+refused-requires c κs = search needs
+
+returns : tie.Need-returns
+returns c = rw (c .before .answer .given .1) (record { told = record { number-is = refl; place-is = refl }; slack-is = toZ-ofZ (record { sfits = c .known-told .given .0 .1 }) })
+
+returns-2 : tie.Need-returns-2
+returns-2 c = search needs
+
+pub slack-spec : {M : Type 1} → statement M
+slack-spec =
+    tie.close (tie.spec enum-known-answer enum-known-answer-2 refused-requires returns returns-2)

@@ -1,0 +1,179 @@
+// A public call's answer as the numbers that a caller in C is told. Internal: crate `film_c` calls it.
+//
+// Proved: the returned number is 0 or the refusal's, and each lent number and array holds what specs/ says of the answer. A refusal
+// writes its place and nothing else; an answer leaves the place as it was.
+ghost use mathlib.Core.Path.{_≡_};
+ghost use Rattle.model.specs.Refusals.{fail, numberOf};
+ghost use Rattle.model.specs.Relaxation.{relaxAnswerOf, slackAnswerOf};
+ghost use Rattle.model.specs.Margin.{marginAnswerOf};
+ghost use Rattle.model.specs.Proposal.{proposalAnswerOf};
+ghost use Rattle.model.specs.Estimate.{estimateAnswerOf};
+ghost use Rattle.model.specs.Run.{runAnswerOf};
+ghost use Rattle.model.specs.FileCalls.{loadAnswerOf, saveAnswerOf, formAnswerOf};
+ghost use Rattle.model.specs.ReportCall.{reportAnswerOf};
+ghost use Rattle.tell.specs.Refused.{Told};
+ghost use Rattle.tell.specs.Numbers.{SlackTold, MarginTold, RelaxTold, ProposeTold, estimateTest, RunTold};
+ghost use Rattle.tell.specs.Files.{ReportTold, LoadTold, writeTest};
+use model::Estimated;
+use model::Formed;
+use model::Loaded;
+use model::Margin;
+use model::Proposed;
+use model::Ran;
+use model::Refusal;
+use model::Relaxed;
+use model::Reported;
+use model::Saved;
+use model::Slack;
+
+// A refusal: its place is written, and its number answered.
+fn refused(refusal: Refusal, place: &mut usize) -> u32
+    ensures { λ r. ⌜ Told (fail (numberOf (refusal .fault)) (refusal .place)) (now (place .entry)) r (now (place .exit)) ⌝ }
+{
+    let fault = refusal.fault;
+    *place = refusal.place;
+    render::number_of(fault) as u32
+}
+
+// A cell's slack.
+pub fn slack(answer: Slack, value: &mut i64, place: &mut usize) -> u32
+    ensures { λ r. ⌜ SlackTold (slackAnswerOf answer) (now (value .entry)) (now (place .entry)) r (now (value .exit)) (now (place .exit)) ⌝ }
+{
+    match answer {
+        Slack::Is(z) => {
+            *value = z;
+            0
+        }
+        Slack::Refused(r) => refused(r, place),
+    }
+}
+
+// A film's margin.
+pub fn margin(answer: Margin, value: &mut u32, place: &mut usize) -> u32
+    ensures { λ r. ⌜ MarginTold (marginAnswerOf answer) (now (value .entry)) (now (place .entry)) r (now (value .exit)) (now (place .exit)) ⌝ }
+{
+    match answer {
+        Margin::Is(k) => {
+            *value = k;
+            0
+        }
+        Margin::Refused(r) => refused(r, place),
+    }
+}
+
+// A run: how it ended and its counts, and the cell of Over.
+pub fn run(answer: Ran, result: &mut [u32; 4], cell: &mut usize, place: &mut usize) -> u32
+    ensures { λ r. ⌜ RunTold (runAnswerOf answer) (now (result .entry)) (now (cell .entry)) (now (place .entry)) r (now (result .exit)) (now (cell .exit)) (now (place .exit)) ⌝ }
+{
+    match answer {
+        Ran::Done(c) => {
+            *result = [0, c.visits, c.raises, c.accepted];
+            0
+        }
+        Ran::Stopped(c) => {
+            *result = [1, c.visits, c.raises, c.accepted];
+            0
+        }
+        Ran::Over(at, c) => {
+            *result = [2, c.visits, c.raises, c.accepted];
+            *cell = at;
+            0
+        }
+        Ran::Refused(r) => refused(r, place),
+    }
+}
+
+// A relaxation: what it found, and the pressure that the cell was raised to.
+pub fn relax(answer: Relaxed, result: &mut [u32; 2], place: &mut usize) -> u32
+    ensures { λ r. ⌜ RelaxTold (relaxAnswerOf answer) (now (result .entry)) (now (place .entry)) r (now (result .exit)) (now (place .exit)) ⌝ }
+{
+    match answer {
+        Relaxed::Quiet => {
+            *result = [0, 0];
+            0
+        }
+        Relaxed::Raised(pressure) => {
+            *result = [1, pressure];
+            0
+        }
+        Relaxed::Over(_) => {
+            *result = [2, 0];
+            0
+        }
+        Relaxed::Refused(r) => refused(r, place),
+    }
+}
+
+// A line proposal: whether it was accepted, and how many cells it raised.
+pub fn propose(answer: Proposed, result: &mut [u32; 2], place: &mut usize) -> u32
+    ensures { λ r. ⌜ ProposeTold (proposalAnswerOf answer) (now (result .entry)) (now (place .entry)) r (now (result .exit)) (now (place .exit)) ⌝ }
+{
+    match answer {
+        Proposed::Accepted(cells) => {
+            *result = [1, cells];
+            0
+        }
+        Proposed::Rejected => {
+            *result = [0, 0];
+            0
+        }
+        Proposed::Refused(r) => refused(r, place),
+    }
+}
+
+// An estimate, which is in its own slice.
+pub fn estimate(answer: Estimated, place: &mut usize) -> u32
+    ensures { λ r. ⌜ Told (estimateTest (estimateAnswerOf answer)) (now (place .entry)) r (now (place .exit)) ⌝ }
+{
+    match answer {
+        Estimated::Written => 0,
+        Estimated::Refused(r) => refused(r, place),
+    }
+}
+
+// A report, which is in its own slice: its length.
+pub fn report(answer: Reported, length: &mut usize, place: &mut usize) -> u32
+    ensures { λ r. ⌜ ReportTold (reportAnswerOf answer) (now (length .entry)) (now (place .entry)) r (now (length .exit)) (now (place .exit)) ⌝ }
+{
+    match answer {
+        Reported::Written(n) => {
+            *length = n;
+            0
+        }
+        Reported::Refused(r) => refused(r, place),
+    }
+}
+
+// A film that was read, whose weights and thicknesses are in their own slices: its shape, ceiling and wedge.
+pub fn read(answer: Loaded, head: &mut [u32; 3], wedge: &mut i32, place: &mut usize) -> u32
+    ensures { λ r. ⌜ LoadTold (loadAnswerOf answer) (now (head .entry)) (now (wedge .entry)) (now (place .entry)) r (now (head .exit)) (now (wedge .exit)) (now (place .exit)) ⌝ }
+{
+    match answer {
+        Loaded::Film(h, w) => {
+            *head = [h.rows, h.columns, h.ceiling];
+            *wedge = w;
+            0
+        }
+        Loaded::Refused(r) => refused(r, place),
+    }
+}
+
+// A file that was written, which is in its own slice.
+pub fn write(answer: Saved, place: &mut usize) -> u32
+    ensures { λ r. ⌜ Told (writeTest (saveAnswerOf answer)) (now (place .entry)) r (now (place .exit)) ⌝ }
+{
+    match answer {
+        Saved::Written => 0,
+        Saved::Refused(r) => refused(r, place),
+    }
+}
+
+// Formed coefficients, which are in their own slices.
+pub fn form(answer: Formed, place: &mut usize) -> u32
+    ensures { λ r. ⌜ Told (writeTest (formAnswerOf answer)) (now (place .entry)) r (now (place .exit)) ⌝ }
+{
+    match answer {
+        Formed::Written => 0,
+        Formed::Refused(r) => refused(r, place),
+    }
+}
