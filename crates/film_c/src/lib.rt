@@ -1,0 +1,2 @@
+// Film for C and Rust.
+mod numbers; // numbers.rt: the calls on coefficients
