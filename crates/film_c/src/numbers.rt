@@ -1,10 +1,17 @@
 // The calls on a film as coefficients.
+ghost use mathlib.Core.Path.{_≡_};
 ghost use Rattle.model.specs.Film.{filmOf};
-ghost use Rattle.model.specs.Relaxation.{slackCall};
-ghost use Rattle.tell.specs.Numbers.{SlackTold};
+ghost use Rattle.model.specs.Relaxation.{relaxCall, slackCall};
+ghost use Rattle.model.specs.Margin.{marginCall};
+ghost use Rattle.model.specs.Proposal.{proposeCall};
+ghost use Rattle.model.specs.Estimate.{estimateCall};
+ghost use Rattle.model.specs.Run.{runCall};
+ghost use Rattle.tell.specs.Refused.{Told};
+ghost use Rattle.tell.specs.Numbers.{SlackTold, MarginTold, RelaxTold, ProposeTold, estimateTest, RunTold};
 ghost use Rattle.film_c.specs.Lent.{headOf};
 use model::Head;
 
+// Tells the slack of one cell.
 #[no_mangle]
 pub extern "C" fn film_slack(
     rows: u32,
@@ -29,4 +36,176 @@ pub extern "C" fn film_slack(
     };
     let answer = problem::slack(head, weights, diagonals, rights, ups, sources, field, at);
     tell::slack(answer, slack, place)
+}
+
+// Tells the film's margin.
+#[no_mangle]
+pub extern "C" fn film_margin(
+    rows: u32,
+    columns: u32,
+    ceiling: u32,
+    weights: &[u16],
+    diagonals: &[u32],
+    rights: &[u32],
+    ups: &[u32],
+    sources: &[i64],
+    margin: &mut u32,
+    place: &mut usize,
+) -> u32
+    ensures { λ r. ⌜ MarginTold (marginCall (filmOf (headOf rows columns ceiling) (now (weights .entry)) (now (diagonals .entry)) (now (rights .entry)) (now (ups .entry)) (now (sources .entry)))) (now (margin .entry)) (now (place .entry)) r (now (margin .exit)) (now (place .exit)) ⌝ }
+{
+    let head = Head {
+        rows: rows,
+        columns: columns,
+        ceiling: ceiling,
+    };
+    let answer = line::margin(head, weights, diagonals, rights, ups, sources);
+    tell::margin(answer, margin, place)
+}
+
+// Makes a run: result is 0 for done, 1 for stopped or 2 for over, then visits, raises, and cells raised by proposals; cell is that of Over.
+#[no_mangle]
+pub extern "C" fn film_run(
+    rows: u32,
+    columns: u32,
+    ceiling: u32,
+    weights: &[u16],
+    diagonals: &[u32],
+    rights: &[u32],
+    ups: &[u32],
+    sources: &[i64],
+    field: &mut [u32],
+    budget: u32,
+    order: u32,
+    proposals: bool,
+    result: &mut [u32; 4],
+    cell: &mut usize,
+    place: &mut usize,
+) -> u32
+    ensures { λ r. ⌜ RunTold (runCall (filmOf (headOf rows columns ceiling) (now (weights .entry)) (now (diagonals .entry)) (now (rights .entry)) (now (ups .entry)) (now (sources .entry))) budget order proposals (now (field .entry)) .answer) (now (result .entry)) (now (cell .entry)) (now (place .entry)) r (now (result .exit)) (now (cell .exit)) (now (place .exit)) ⌝ }
+    ensures { λ _. ⌜ now (field .exit) ≡ runCall (filmOf (headOf rows columns ceiling) (now (weights .entry)) (now (diagonals .entry)) (now (rights .entry)) (now (ups .entry)) (now (sources .entry))) budget order proposals (now (field .entry)) .lent ⌝ }
+{
+    let head = Head {
+        rows: rows,
+        columns: columns,
+        ceiling: ceiling,
+    };
+    let answer = run::run(
+        head,
+        weights,
+        diagonals,
+        rights,
+        ups,
+        sources,
+        field,
+        budget,
+        order,
+        proposals,
+    );
+    tell::run(answer, result, cell, place)
+}
+
+// Relaxes one cell: result is 0 for quiet, 1 for raised or 2 for over, then the pressure that it was raised to.
+#[no_mangle]
+pub extern "C" fn film_relax(
+    rows: u32,
+    columns: u32,
+    ceiling: u32,
+    weights: &[u16],
+    diagonals: &[u32],
+    rights: &[u32],
+    ups: &[u32],
+    sources: &[i64],
+    field: &mut [u32],
+    at: usize,
+    result: &mut [u32; 2],
+    place: &mut usize,
+) -> u32
+    ensures { λ r. ⌜ RelaxTold (relaxCall (filmOf (headOf rows columns ceiling) (now (weights .entry)) (now (diagonals .entry)) (now (rights .entry)) (now (ups .entry)) (now (sources .entry))) (now (field .entry)) at .answer) (now (result .entry)) (now (place .entry)) r (now (result .exit)) (now (place .exit)) ⌝ }
+    ensures { λ _. ⌜ now (field .exit) ≡ relaxCall (filmOf (headOf rows columns ceiling) (now (weights .entry)) (now (diagonals .entry)) (now (rights .entry)) (now (ups .entry)) (now (sources .entry))) (now (field .entry)) at .lent ⌝ }
+{
+    let head = Head {
+        rows: rows,
+        columns: columns,
+        ceiling: ceiling,
+    };
+    let answer = problem::relax(head, weights, diagonals, rights, ups, sources, field, at);
+    tell::relax(answer, result, place)
+}
+
+// Proposes pressures for a line: result is 1 for accepted or 0 for rejected, then the number of cells raised.
+#[no_mangle]
+pub extern "C" fn film_propose(
+    rows: u32,
+    columns: u32,
+    ceiling: u32,
+    weights: &[u16],
+    diagonals: &[u32],
+    rights: &[u32],
+    ups: &[u32],
+    sources: &[i64],
+    field: &mut [u32],
+    line: u32,
+    proposal: &[u32],
+    result: &mut [u32; 2],
+    place: &mut usize,
+) -> u32
+    ensures { λ r. ⌜ ProposeTold (proposeCall (filmOf (headOf rows columns ceiling) (now (weights .entry)) (now (diagonals .entry)) (now (rights .entry)) (now (ups .entry)) (now (sources .entry))) line (now (proposal .entry)) (now (field .entry)) .answer) (now (result .entry)) (now (place .entry)) r (now (result .exit)) (now (place .exit)) ⌝ }
+    ensures { λ _. ⌜ now (field .exit) ≡ proposeCall (filmOf (headOf rows columns ceiling) (now (weights .entry)) (now (diagonals .entry)) (now (rights .entry)) (now (ups .entry)) (now (sources .entry))) line (now (proposal .entry)) (now (field .entry)) .lent ⌝ }
+{
+    let head = Head {
+        rows: rows,
+        columns: columns,
+        ceiling: ceiling,
+    };
+    let answer = line::propose(
+        head,
+        weights,
+        diagonals,
+        rights,
+        ups,
+        sources,
+        field,
+        line,
+        proposal,
+    );
+    tell::propose(answer, result, place)
+}
+
+// Writes the program's own proposal for a line.
+#[no_mangle]
+pub extern "C" fn film_estimate(
+    rows: u32,
+    columns: u32,
+    ceiling: u32,
+    weights: &[u16],
+    diagonals: &[u32],
+    rights: &[u32],
+    ups: &[u32],
+    sources: &[i64],
+    field: &[u32],
+    line: u32,
+    proposal: &mut [u32],
+    place: &mut usize,
+) -> u32
+    ensures { λ r. ⌜ Told (estimateTest (estimateCall (filmOf (headOf rows columns ceiling) (now (weights .entry)) (now (diagonals .entry)) (now (rights .entry)) (now (ups .entry)) (now (sources .entry))) line (now (field .entry)) (now (proposal .entry)) .answer)) (now (place .entry)) r (now (place .exit)) ⌝ }
+    ensures { λ _. ⌜ now (proposal .exit) ≡ estimateCall (filmOf (headOf rows columns ceiling) (now (weights .entry)) (now (diagonals .entry)) (now (rights .entry)) (now (ups .entry)) (now (sources .entry))) line (now (field .entry)) (now (proposal .entry)) .lent ⌝ }
+{
+    let head = Head {
+        rows: rows,
+        columns: columns,
+        ceiling: ceiling,
+    };
+    let answer = line::estimate(
+        head,
+        weights,
+        diagonals,
+        rights,
+        ups,
+        sources,
+        field,
+        line,
+        proposal,
+    );
+    tell::estimate(answer, place)
 }
