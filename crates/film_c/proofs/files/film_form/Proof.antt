@@ -1,0 +1,32 @@
+-- `film_c::film_form` meets its contract.
+use mir.Facts.{toZ-ofZ}
+use borrow.Author.Needs.{needs}
+use Rattle.film_c.proofs.FilesTold.{form-told}
+use Rattle.film_c.proofs.files.film_form.Statement.{statement}
+use Rattle.film_c.proofs.files.film_form.Tie as tie
+
+form-requires : tie.Need-form-requires
+form-requires c κs = search needs
+
+form-requires-2 : tie.Need-form-requires-2
+form-requires-2 c κs = search needs
+
+same-length : tie.Need-same-length
+same-length c = search needs
+
+same-length-2 : tie.Need-same-length-2
+same-length-2 c = search needs
+
+same-length-3 : tie.Need-same-length-3
+same-length-3 c = search needs
+
+same-length-4 : tie.Need-same-length-4
+same-length-4 c = search needs
+
+returns : tie.Need-returns
+returns c =
+    let f = c .before .before .before .before .before .before .before .before .before in
+    form-told (rw (toZ-ofZ (f .before .before .before .before .before .before .before .before .before .before .fits .wedge)) at (f .form .ensures)) (c .form2 .ensures)
+
+pub film-form-spec : {M : Type 1} → statement M
+film-form-spec = tie.close (tie.spec form-requires form-requires-2 same-length same-length-2 same-length-3 same-length-4 returns)
