@@ -1,40 +1,47 @@
--- What was told of the answer that a call gave is told of the answer that document 01 gives; and so is the slice that it left.
-use mathlib.Core.Path.{_≡_, subst}
+-- What was told of the answer that a call gave is told of the answer that document 01 gives.
+use mathlib.Core.Path.{_≡_, refl, subst}
 use mathlib.Core.List.{List}
 use Prim.Native.Nat.{ℕ}
 use lib.IntN.{ℤ}
+use Rattle.model.specs.Gauge.{Gauge}
 use Rattle.model.specs.Result.{Result, Gives}
-use Rattle.model.specs.Relaxation.{RelaxAnswer, SlackAnswer}
+use Rattle.model.specs.Relaxation.{SlackAnswer}
 use Rattle.model.specs.Margin.{MarginAnswer}
-use Rattle.model.specs.Proposal.{ProposalAnswer}
-use Rattle.model.specs.Estimate.{EstimateAnswer}
-use Rattle.model.specs.Run.{RunAnswer}
+use Rattle.model.specs.FileCalls.{WriteAnswer, LoadAnswer, Loads, Forms}
 use Rattle.tell.specs.Refused.{Told}
-use Rattle.tell.specs.Numbers.{SlackTold, MarginTold, RelaxTold, ProposeTold, estimateTest, RunTold}
+use Rattle.tell.specs.Numbers.{SlackTold, MarginTold}
+use Rattle.tell.specs.Files.{LoadTold, writeTest}
+use Rattle.film_c.specs.Lent.{Leaves, ReadTold, FormTold}
 
 pub slack-told : {a b : SlackAnswer} {z z′ : ℤ} {p n p′ : ℕ} → a ≡ b → SlackTold a z p n z′ p′ → SlackTold b z p n z′ p′
-slack-told {a} {b} {z} {z′} {p} {n} {p′} e t = subst (λ (x : SlackAnswer). SlackTold x z p n z′ p′) e t
+slack-told {z = z} {z′ = z′} {p = p} {n = n} {p′ = p′} e told = subst (λ (x : SlackAnswer). SlackTold x z p n z′ p′) e told
 
 pub margin-told : {a b : MarginAnswer} {m m′ p n p′ : ℕ} → a ≡ b → MarginTold a m p n m′ p′ → MarginTold b m p n m′ p′
-margin-told {a} {b} {m} {m′} {p} {n} {p′} e t = subst (λ (x : MarginAnswer). MarginTold x m p n m′ p′) e t
+margin-told {m = m} {m′ = m′} {p = p} {n = n} {p′ = p′} e told = subst (λ (x : MarginAnswer). MarginTold x m p n m′ p′) e told
 
-pub run-told :
-    {call : Result RunAnswer} {a : RunAnswer} {field : List ℕ} {r r′ : List ℕ} {c p n c′ p′ : ℕ} →
-    Gives call a field → RunTold a r c p n r′ c′ p′ → RunTold (call .answer) r c p n r′ c′ p′ × (field ≡ call .lent)
-run-told {r = r} {r′ = r′} {c = c} {p = p} {n = n} {c′ = c′} {p′ = p′} g t =
-    (subst (λ (x : RunAnswer). RunTold x r c p n r′ c′ p′) (g .answer-is) t, g .lent-is)
+pub leaves : {A : Type 0} {call : Result A} {a : A} {exit : List ℕ} {Tells : A → Type 0} → Gives call a exit → Tells a → Leaves call Tells exit
+leaves {Tells = Tells} gave told = record { told = subst Tells (gave .answer-is) told; lent-is = gave .lent-is }
 
-pub relax-told :
-    {call : Result RelaxAnswer} {a : RelaxAnswer} {field : List ℕ} {r r′ : List ℕ} {p n p′ : ℕ} →
-    Gives call a field → RelaxTold a r p n r′ p′ → RelaxTold (call .answer) r p n r′ p′ × (field ≡ call .lent)
-relax-told {r = r} {r′ = r′} {p = p} {n = n} {p′ = p′} g t = (subst (λ (x : RelaxAnswer). RelaxTold x r p n r′ p′) (g .answer-is) t, g .lent-is)
+pub read-told :
+    {bytes w t w′ t′ h h′ : List ℕ} {a : LoadAnswer} {z z′ : ℤ} {p n p′ : ℕ} →
+    Loads bytes w t a w′ t′ → LoadTold a h z p n h′ z′ p′ → ReadTold bytes w t h z p n w′ t′ h′ z′ p′
+read-told {h = h} {h′ = h′} {z = z} {z′ = z′} {p = p} {n = n} {p′ = p′} loads told =
+    record {
+      told = subst (λ (x : LoadAnswer). LoadTold x h z p n h′ z′ p′) (loads .answer-is) told;
+      loads = record { answer-is = refl; weights-are = loads .weights-are; thicknesses-are = loads .thicknesses-are };
+    }
 
-pub propose-told :
-    {call : Result ProposalAnswer} {a : ProposalAnswer} {field : List ℕ} {r r′ : List ℕ} {p n p′ : ℕ} →
-    Gives call a field → ProposeTold a r p n r′ p′ → ProposeTold (call .answer) r p n r′ p′ × (field ≡ call .lent)
-propose-told {r = r} {r′ = r′} {p = p} {n = n} {p′ = p′} g t = (subst (λ (x : ProposalAnswer). ProposeTold x r p n r′ p′) (g .answer-is) t, g .lent-is)
-
-pub estimate-told :
-    {call : Result EstimateAnswer} {a : EstimateAnswer} {proposal : List ℕ} {p n p′ : ℕ} →
-    Gives call a proposal → Told (estimateTest a) p n p′ → Told (estimateTest (call .answer)) p n p′ × (proposal ≡ call .lent)
-estimate-told {p = p} {n = n} {p′ = p′} g t = (subst (λ (x : EstimateAnswer). Told (estimateTest x) p n p′) (g .answer-is) t, g .lent-is)
+pub form-told :
+    {g : Gauge} {d r u d′ r′ u′ : List ℕ} {s s′ : List ℤ} {a : WriteAnswer} {p n p′ : ℕ} →
+    Forms g d r u s a d′ r′ u′ s′ → Told (writeTest a) p n p′ → FormTold g d r u s p n d′ r′ u′ s′ p′
+form-told {p = p} {n = n} {p′ = p′} forms told =
+    record {
+      told = subst (λ (x : WriteAnswer). Told (writeTest x) p n p′) (forms .answer-is) told;
+      forms = record {
+        answer-is = refl;
+        diagonals-are = forms .diagonals-are;
+        rights-are = forms .rights-are;
+        ups-are = forms .ups-are;
+        sources-are = forms .sources-are;
+      };
+    }

@@ -1,19 +1,38 @@
--- A film as a caller in C hands it over, and the answers of the calls that write more than one slice.
+-- A film as a caller in C hands it over, and what a call with lent slices leaves.
+use mathlib.Core.Path.{_≡_}
 use mathlib.Core.List.{List}
 use Prim.Native.Nat.{ℕ}
 use lib.IntN.{ℤ}
 use Rattle.model.specs.Gauge.{Gauge}
+use Rattle.model.specs.Result.{Result}
 use Rattle.model.specs.File.{gaugeIn}
-use Rattle.model.specs.FileCalls.{WriteAnswer, LoadAnswer, writeAnswer, formCheck, loadAnswer, loadCheck}
+use Rattle.model.specs.FileCalls.{WriteAnswer, LoadAnswer, Forms, Loads, writeAnswer, formCheck, loadAnswer, loadCheck}
 use Rattle.model.specs.declared.Head.{Head}
+use Rattle.tell.specs.Refused.{Told}
+use Rattle.tell.specs.Files.{LoadTold, writeTest}
 
 abbrev pub headOf : ℕ → ℕ → ℕ → Head
 headOf rows columns ceiling = record { rows = rows; columns = columns; ceiling = ceiling }
+
+-- a call with one lent slice told its answer, and left just this in the slice
+pub record Leaves {A : Type 0} (call : Result A) (Tells : A → Type 0) (exit : List ℕ) : Type 0 where
+  pub told : Tells (call .answer)
+  pub lent-is : exit ≡ call .lent
 
 -- what `Loads` says that the reader answers
 abbrev pub readAnswer : List ℕ → List ℕ → List ℕ → LoadAnswer
 readAnswer bytes weights thicknesses = loadAnswer (loadCheck bytes weights thicknesses) (gaugeIn bytes)
 
+pub record ReadTold (bytes weights thicknesses head : List ℕ) (wedge : ℤ) (place number : ℕ) (weights′ thicknesses′ head′ : List ℕ) (wedge′ : ℤ) (place′ : ℕ)
+    : Type 0 where
+  pub told : LoadTold (readAnswer bytes weights thicknesses) head wedge place number head′ wedge′ place′
+  pub loads : Loads bytes weights thicknesses (readAnswer bytes weights thicknesses) weights′ thicknesses′
+
 -- what `Forms` says that the forming call answers
 abbrev pub formAnswer : Gauge → List ℕ → List ℕ → List ℕ → List ℤ → WriteAnswer
 formAnswer g diagonals rights ups sources = writeAnswer (formCheck g diagonals rights ups sources)
+
+pub record FormTold (g : Gauge) (diagonals rights ups : List ℕ) (sources : List ℤ) (place number : ℕ) (diagonals′ rights′ ups′ : List ℕ) (sources′ : List ℤ) (place′ : ℕ)
+    : Type 0 where
+  pub told : Told (writeTest (formAnswer g diagonals rights ups sources)) place number place′
+  pub forms : Forms g diagonals rights ups sources (formAnswer g diagonals rights ups sources) diagonals′ rights′ ups′ sources′

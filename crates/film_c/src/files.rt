@@ -1,10 +1,9 @@
 // The calls on film files and on a film's own numbers.
-ghost use mathlib.Core.Path.{_≡_};
-ghost use Rattle.model.specs.FileCalls.{gaugeOf, saveCall, Loads, Forms};
+ghost use Rattle.model.specs.FileCalls.{gaugeOf, saveCall};
 ghost use Rattle.model.specs.ReportCall.{reportCall};
 ghost use Rattle.tell.specs.Refused.{Told};
-ghost use Rattle.tell.specs.Files.{ReportTold, LoadTold, writeTest};
-ghost use Rattle.film_c.specs.Lent.{headOf, readAnswer, formAnswer};
+ghost use Rattle.tell.specs.Files.{ReportTold, writeTest};
+ghost use Rattle.film_c.specs.Lent.{headOf, Leaves, ReadTold, FormTold};
 use model::Head;
 
 // Writes a file's report at the start of out, and tells its length.
@@ -15,8 +14,7 @@ pub extern "C" fn film_report(
     length: &mut usize,
     place: &mut usize,
 ) -> u32
-    ensures { λ r. ⌜ ReportTold (reportCall (now (file .entry)) (now (out .entry)) .answer) (now (length .entry)) (now (place .entry)) r (now (length .exit)) (now (place .exit)) ⌝ }
-    ensures { λ _. ⌜ now (out .exit) ≡ reportCall (now (file .entry)) (now (out .entry)) .lent ⌝ }
+    ensures { λ r. ⌜ Leaves (reportCall (now (file .entry)) (now (out .entry))) (λ a. ReportTold a (now (length .entry)) (now (place .entry)) r (now (length .exit)) (now (place .exit))) (now (out .exit)) ⌝ }
 {
     let answer = report::report(file, out);
     tell::report(answer, length, place)
@@ -32,8 +30,7 @@ pub extern "C" fn film_read(
     wedge: &mut i32,
     place: &mut usize,
 ) -> u32
-    ensures { λ r. ⌜ LoadTold (readAnswer (now (file .entry)) (now (weights .entry)) (now (thicknesses .entry))) (now (head .entry)) (now (wedge .entry)) (now (place .entry)) r (now (head .exit)) (now (wedge .exit)) (now (place .exit)) ⌝ }
-    ensures { λ _. ⌜ Loads (now (file .entry)) (now (weights .entry)) (now (thicknesses .entry)) (readAnswer (now (file .entry)) (now (weights .entry)) (now (thicknesses .entry))) (now (weights .exit)) (now (thicknesses .exit)) ⌝ }
+    ensures { λ r. ⌜ ReadTold (now (file .entry)) (now (weights .entry)) (now (thicknesses .entry)) (now (head .entry)) (now (wedge .entry)) (now (place .entry)) r (now (weights .exit)) (now (thicknesses .exit)) (now (head .exit)) (now (wedge .exit)) (now (place .exit)) ⌝ }
 {
     let answer = file::read(file, weights, thicknesses);
     tell::read(answer, head, wedge, place)
@@ -51,8 +48,7 @@ pub extern "C" fn film_write(
     out: &mut [u8],
     place: &mut usize,
 ) -> u32
-    ensures { λ r. ⌜ Told (writeTest (saveCall (gaugeOf (headOf rows columns ceiling) (now (weights .entry)) (now (thicknesses .entry)) wedge) (now (out .entry)) .answer)) (now (place .entry)) r (now (place .exit)) ⌝ }
-    ensures { λ _. ⌜ now (out .exit) ≡ saveCall (gaugeOf (headOf rows columns ceiling) (now (weights .entry)) (now (thicknesses .entry)) wedge) (now (out .entry)) .lent ⌝ }
+    ensures { λ r. ⌜ Leaves (saveCall (gaugeOf (headOf rows columns ceiling) (now (weights .entry)) (now (thicknesses .entry)) wedge) (now (out .entry))) (λ a. Told (writeTest a) (now (place .entry)) r (now (place .exit))) (now (out .exit)) ⌝ }
 {
     let head = Head {
         rows: rows,
@@ -78,8 +74,7 @@ pub extern "C" fn film_form(
     sources: &mut [i64],
     place: &mut usize,
 ) -> u32
-    ensures { λ r. ⌜ Told (writeTest (formAnswer (gaugeOf (headOf rows columns ceiling) (now (weights .entry)) (now (thicknesses .entry)) wedge) (now (diagonals .entry)) (now (rights .entry)) (now (ups .entry)) (now (sources .entry)))) (now (place .entry)) r (now (place .exit)) ⌝ }
-    ensures { λ _. ⌜ Forms (gaugeOf (headOf rows columns ceiling) (now (weights .entry)) (now (thicknesses .entry)) wedge) (now (diagonals .entry)) (now (rights .entry)) (now (ups .entry)) (now (sources .entry)) (formAnswer (gaugeOf (headOf rows columns ceiling) (now (weights .entry)) (now (thicknesses .entry)) wedge) (now (diagonals .entry)) (now (rights .entry)) (now (ups .entry)) (now (sources .entry))) (now (diagonals .exit)) (now (rights .exit)) (now (ups .exit)) (now (sources .exit)) ⌝ }
+    ensures { λ r. ⌜ FormTold (gaugeOf (headOf rows columns ceiling) (now (weights .entry)) (now (thicknesses .entry)) wedge) (now (diagonals .entry)) (now (rights .entry)) (now (ups .entry)) (now (sources .entry)) (now (place .entry)) r (now (diagonals .exit)) (now (rights .exit)) (now (ups .exit)) (now (sources .exit)) (now (place .exit)) ⌝ }
 {
     let head = Head {
         rows: rows,

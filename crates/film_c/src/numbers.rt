@@ -1,5 +1,4 @@
 // The calls on a film as coefficients.
-ghost use mathlib.Core.Path.{_≡_};
 ghost use Rattle.model.specs.Film.{filmOf};
 ghost use Rattle.model.specs.Relaxation.{relaxCall, slackCall};
 ghost use Rattle.model.specs.Margin.{marginCall};
@@ -8,7 +7,7 @@ ghost use Rattle.model.specs.Estimate.{estimateCall};
 ghost use Rattle.model.specs.Run.{runCall};
 ghost use Rattle.tell.specs.Refused.{Told};
 ghost use Rattle.tell.specs.Numbers.{SlackTold, MarginTold, RelaxTold, ProposeTold, estimateTest, RunTold};
-ghost use Rattle.film_c.specs.Lent.{headOf};
+ghost use Rattle.film_c.specs.Lent.{headOf, Leaves};
 use model::Head;
 
 // Tells the slack of one cell.
@@ -82,8 +81,7 @@ pub extern "C" fn film_run(
     cell: &mut usize,
     place: &mut usize,
 ) -> u32
-    ensures { λ r. ⌜ RunTold (runCall (filmOf (headOf rows columns ceiling) (now (weights .entry)) (now (diagonals .entry)) (now (rights .entry)) (now (ups .entry)) (now (sources .entry))) budget order proposals (now (field .entry)) .answer) (now (result .entry)) (now (cell .entry)) (now (place .entry)) r (now (result .exit)) (now (cell .exit)) (now (place .exit)) ⌝ }
-    ensures { λ _. ⌜ now (field .exit) ≡ runCall (filmOf (headOf rows columns ceiling) (now (weights .entry)) (now (diagonals .entry)) (now (rights .entry)) (now (ups .entry)) (now (sources .entry))) budget order proposals (now (field .entry)) .lent ⌝ }
+    ensures { λ r. ⌜ Leaves (runCall (filmOf (headOf rows columns ceiling) (now (weights .entry)) (now (diagonals .entry)) (now (rights .entry)) (now (ups .entry)) (now (sources .entry))) budget order proposals (now (field .entry))) (λ a. RunTold a (now (result .entry)) (now (cell .entry)) (now (place .entry)) r (now (result .exit)) (now (cell .exit)) (now (place .exit))) (now (field .exit)) ⌝ }
 {
     let head = Head {
         rows: rows,
@@ -121,8 +119,7 @@ pub extern "C" fn film_relax(
     result: &mut [u32; 2],
     place: &mut usize,
 ) -> u32
-    ensures { λ r. ⌜ RelaxTold (relaxCall (filmOf (headOf rows columns ceiling) (now (weights .entry)) (now (diagonals .entry)) (now (rights .entry)) (now (ups .entry)) (now (sources .entry))) (now (field .entry)) at .answer) (now (result .entry)) (now (place .entry)) r (now (result .exit)) (now (place .exit)) ⌝ }
-    ensures { λ _. ⌜ now (field .exit) ≡ relaxCall (filmOf (headOf rows columns ceiling) (now (weights .entry)) (now (diagonals .entry)) (now (rights .entry)) (now (ups .entry)) (now (sources .entry))) (now (field .entry)) at .lent ⌝ }
+    ensures { λ r. ⌜ Leaves (relaxCall (filmOf (headOf rows columns ceiling) (now (weights .entry)) (now (diagonals .entry)) (now (rights .entry)) (now (ups .entry)) (now (sources .entry))) (now (field .entry)) at) (λ a. RelaxTold a (now (result .entry)) (now (place .entry)) r (now (result .exit)) (now (place .exit))) (now (field .exit)) ⌝ }
 {
     let head = Head {
         rows: rows,
@@ -150,8 +147,7 @@ pub extern "C" fn film_propose(
     result: &mut [u32; 2],
     place: &mut usize,
 ) -> u32
-    ensures { λ r. ⌜ ProposeTold (proposeCall (filmOf (headOf rows columns ceiling) (now (weights .entry)) (now (diagonals .entry)) (now (rights .entry)) (now (ups .entry)) (now (sources .entry))) line (now (proposal .entry)) (now (field .entry)) .answer) (now (result .entry)) (now (place .entry)) r (now (result .exit)) (now (place .exit)) ⌝ }
-    ensures { λ _. ⌜ now (field .exit) ≡ proposeCall (filmOf (headOf rows columns ceiling) (now (weights .entry)) (now (diagonals .entry)) (now (rights .entry)) (now (ups .entry)) (now (sources .entry))) line (now (proposal .entry)) (now (field .entry)) .lent ⌝ }
+    ensures { λ r. ⌜ Leaves (proposeCall (filmOf (headOf rows columns ceiling) (now (weights .entry)) (now (diagonals .entry)) (now (rights .entry)) (now (ups .entry)) (now (sources .entry))) line (now (proposal .entry)) (now (field .entry))) (λ a. ProposeTold a (now (result .entry)) (now (place .entry)) r (now (result .exit)) (now (place .exit))) (now (field .exit)) ⌝ }
 {
     let head = Head {
         rows: rows,
@@ -188,8 +184,7 @@ pub extern "C" fn film_estimate(
     proposal: &mut [u32],
     place: &mut usize,
 ) -> u32
-    ensures { λ r. ⌜ Told (estimateTest (estimateCall (filmOf (headOf rows columns ceiling) (now (weights .entry)) (now (diagonals .entry)) (now (rights .entry)) (now (ups .entry)) (now (sources .entry))) line (now (field .entry)) (now (proposal .entry)) .answer)) (now (place .entry)) r (now (place .exit)) ⌝ }
-    ensures { λ _. ⌜ now (proposal .exit) ≡ estimateCall (filmOf (headOf rows columns ceiling) (now (weights .entry)) (now (diagonals .entry)) (now (rights .entry)) (now (ups .entry)) (now (sources .entry))) line (now (field .entry)) (now (proposal .entry)) .lent ⌝ }
+    ensures { λ r. ⌜ Leaves (estimateCall (filmOf (headOf rows columns ceiling) (now (weights .entry)) (now (diagonals .entry)) (now (rights .entry)) (now (ups .entry)) (now (sources .entry))) line (now (field .entry)) (now (proposal .entry))) (λ a. Told (estimateTest a) (now (place .entry)) r (now (place .exit))) (now (proposal .exit)) ⌝ }
 {
     let head = Head {
         rows: rows,

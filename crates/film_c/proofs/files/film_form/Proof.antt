@@ -1,7 +1,7 @@
 -- `film_c::film_form` meets its contract.
 use mir.Facts.{toZ-ofZ}
 use borrow.Author.Needs.{needs}
-use Rattle.film_c.proofs.FilesTold.{form-told}
+use Rattle.film_c.proofs.Told.{form-told}
 use Rattle.film_c.proofs.files.film_form.Statement.{statement}
 use Rattle.film_c.proofs.files.film_form.Tie as tie
 

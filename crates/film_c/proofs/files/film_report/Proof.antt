@@ -1,6 +1,6 @@
 -- `film_c::film_report` meets its contract.
 use borrow.Author.Needs.{needs}
-use Rattle.film_c.proofs.FilesTold.{report-told}
+use Rattle.film_c.proofs.Told.{leaves}
 use Rattle.film_c.proofs.files.film_report.Statement.{statement}
 use Rattle.film_c.proofs.files.film_report.Tie as tie
 
@@ -14,7 +14,7 @@ same-length : tie.Need-same-length
 same-length c = search needs
 
 returns : tie.Need-returns
-returns c = report-told (c .before .before .before .before .before .report .ensures) (c .report2 .ensures)
+returns c = leaves (c .before .before .before .before .before .report .ensures) (c .report2 .ensures)
 
 pub film-report-spec : {M : Type 1} → statement M
 film-report-spec = tie.close (tie.spec report-requires report-requires-2 same-length returns)

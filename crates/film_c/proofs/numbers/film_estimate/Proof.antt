@@ -1,6 +1,6 @@
 -- `film_c::film_estimate` meets its contract.
 use borrow.Author.Needs.{needs}
-use Rattle.film_c.proofs.Told.{estimate-told}
+use Rattle.film_c.proofs.Told.{leaves}
 use Rattle.film_c.proofs.numbers.film_estimate.Statement.{statement}
 use Rattle.film_c.proofs.numbers.film_estimate.Tie as tie
 
@@ -14,7 +14,7 @@ same-length : tie.Need-same-length
 same-length c = search needs
 
 returns : tie.Need-returns
-returns c = estimate-told (c .before .before .before .before .estimate .ensures) (c .estimate2 .ensures)
+returns c = leaves (c .before .before .before .before .estimate .ensures) (c .estimate2 .ensures)
 
 pub film-estimate-spec : {M : Type 1} → statement M
 film-estimate-spec = tie.close (tie.spec estimate-requires estimate-requires-2 same-length returns)

@@ -1,6 +1,6 @@
 -- `film_c::film_relax` meets its contract.
 use borrow.Author.Needs.{needs}
-use Rattle.film_c.proofs.Told.{relax-told}
+use Rattle.film_c.proofs.Told.{leaves}
 use Rattle.film_c.proofs.numbers.film_relax.Statement.{statement}
 use Rattle.film_c.proofs.numbers.film_relax.Tie as tie
 
@@ -14,7 +14,7 @@ same-length : tie.Need-same-length
 same-length c = search needs
 
 returns : tie.Need-returns
-returns c = relax-told (c .before .before .before .before .before .relax .ensures) (c .relax2 .ensures)
+returns c = leaves (c .before .before .before .before .before .relax .ensures) (c .relax2 .ensures)
 
 pub film-relax-spec : {M : Type 1} → statement M
 film-relax-spec = tie.close (tie.spec relax-requires relax-requires-2 same-length returns)
