@@ -1,3 +1,8 @@
-// Film for C and Rust.
-mod numbers; // numbers.rt: the calls on coefficients
-mod files; // files.rt: the calls on film files and a film's own numbers
+// Film for C and Rust: the public calls as C functions, on numbers and lent slices. include/film.h documents them for their caller.
+// Each returns 0 if the call answered, else the number of its refusal. A refusal writes its place and changes nothing else; an
+// answer leaves the place as it was.
+//
+// Proved: the returned number, and what each lent number, array and slice holds at exit, are those that crate `model` gives the call
+// (slackCall, runCall, Loads, ..), told as specs/ of crate `tell` says. As the calls themselves, they ask nothing of their caller.
+mod numbers; // numbers.rt: the calls on a film as coefficients
+mod files; // files.rt: the calls on film files and on a film's own numbers

@@ -1,0 +1,127 @@
+/* Film's public calls for C: the header of the archive that `rt staticlib film_c` writes (target/staticlib/libfilm_c.a).
+ *
+ * A film has R rows and C columns of cells, N = R * C, and T = (R + 2) * (C + 2) thicknesses, the boundary ring included. Cells are
+ * counted from 0, row by row; lines from 1 to R.
+ *
+ * Every call returns 0 if it answered, and then writes what its comment says and leaves *place as it was. Otherwise it returns the number of
+ * a refusal, 1 to 14, writes the refusal's place to *place, and changes nothing else: no result, no field, no slice.
+ *
+ *    1 cut short           a file's header or body runs past its end; place: the file's length
+ *    2 stray               a tag is not the next one, or bytes follow the last field; place: its offset
+ *    3 misfit              a body's length is wrong for its tag; place: the field's offset
+ *    4 shape               rows or columns are not 1 to 32; place: 3 or 4 for a film's own numbers, 0 for coefficients
+ *    5 ceiling             the ceiling is not 1 to 16,777,216; place: 8 for a film's own numbers, 0 for coefficients
+ *    6 no weight           a weight is 0; place: its offset in the film file, the cell for coefficients
+ *    7 thickness           a thickness is not 1 to 128; place: its offset in the film file
+ *    8 wedge               the wedge is beyond 1,000,000,000 either way; place: its offset in the film file
+ *    9 unheld              a weighted row sum is below 1; place: the cell
+ *   10 buffer              a slice has the wrong length; place: 0
+ *   11 order               an ordering number is not 0, 1 or 2; place: 0
+ *   12 start               a pressure of the field is above the ceiling; place: the cell
+ *   13 line                a line or cell is outside the grid; place: 0
+ *   14 coefficient         a coefficient is outside its limits; place: the cell
+ *
+ * Where several would do, the call names the first that it tests for; each call lists its tests in their order.
+ *
+ * What the caller has to see to, since C cannot say it: a slice is a pointer and, right after it, the number of its elements. No
+ * pointer is null, also with no elements; each is aligned for its type and valid for the whole call. What a call may write (a
+ * pointer without const) overlaps nothing else that it is lent. A bool is 0 or 1. Beyond that a call asks nothing: any numbers and
+ * any lengths will do.
+ */
+#ifndef FILM_H
+#define FILM_H
+
+#include <stdbool.h>
+#include <stddef.h>
+#include <stdint.h>
+
+#ifdef __cplusplus
+extern "C" {
+#endif
+
+/* Reads a film file. `weights` has 1,024 elements and `thicknesses` 1,156, whatever the film; those beyond the film's N and T keep their
+ * contents. Writes rows, columns and ceiling to head[0], head[1], head[2], and the wedge.
+ * Refusals: 10, then the fields in their order, each with 1, 2, 3 and its values (4, 5, 6, 7, 8), then 2 for what follows, then 9. */
+uint32_t film_read(const uint8_t *file, size_t file_len,
+                   uint16_t *weights, size_t weights_len, uint8_t *thicknesses, size_t thicknesses_len,
+                   uint32_t head[3], int32_t *wedge, size_t *place);
+
+/* Writes a film's file. `weights` has N elements, `thicknesses` T, and `out` exactly the file's length, 25 + 2 * N + T.
+ * Refusals: 4, 10, 5, 6, 7, 8, 9. */
+uint32_t film_write(uint32_t rows, uint32_t columns, uint32_t ceiling,
+                    const uint16_t *weights, size_t weights_len, const uint8_t *thicknesses, size_t thicknesses_len,
+                    int32_t wedge, uint8_t *out, size_t out_len, size_t *place);
+
+/* Forms the coefficients of a film from its thicknesses and wedge. `weights`, `diagonals`, `rights`, `ups` and `sources` have N elements,
+ * `thicknesses` has T. Refusals: 4, 10, 5, 6, 7, 8, 9. */
+uint32_t film_form(uint32_t rows, uint32_t columns, uint32_t ceiling,
+                   const uint16_t *weights, size_t weights_len, const uint8_t *thicknesses, size_t thicknesses_len,
+                   int32_t wedge,
+                   uint32_t *diagonals, size_t diagonals_len, uint32_t *rights, size_t rights_len,
+                   uint32_t *ups, size_t ups_len, int64_t *sources, size_t sources_len,
+                   size_t *place);
+
+/* The calls below take a film as coefficients: `weights`, `diagonals`, `rights`, `ups`, `sources` and `field` have N elements. */
+
+/* Relaxes cell `at` of the field. Writes to result[0]: 0 if the cell is quiet, 1 if it was raised, 2 if it would pass the ceiling; and to
+ * result[1] the pressure that it was raised to, else 0. The field changes in that cell alone, and only if it was raised.
+ * Refusals: 4, 5, 10, 14, 6, 9, 12, 13. */
+uint32_t film_relax(uint32_t rows, uint32_t columns, uint32_t ceiling,
+                    const uint16_t *weights, size_t weights_len, const uint32_t *diagonals, size_t diagonals_len,
+                    const uint32_t *rights, size_t rights_len, const uint32_t *ups, size_t ups_len,
+                    const int64_t *sources, size_t sources_len,
+                    uint32_t *field, size_t field_len, size_t at, uint32_t result[2], size_t *place);
+
+/* Writes the slack of cell `at` of the field to *slack. Refusals: 4, 5, 10, 14, 6, 9, 12, 13. */
+uint32_t film_slack(uint32_t rows, uint32_t columns, uint32_t ceiling,
+                    const uint16_t *weights, size_t weights_len, const uint32_t *diagonals, size_t diagonals_len,
+                    const uint32_t *rights, size_t rights_len, const uint32_t *ups, size_t ups_len,
+                    const int64_t *sources, size_t sources_len,
+                    const uint32_t *field, size_t field_len, size_t at, int64_t *slack, size_t *place);
+
+/* Writes the film's margin to *margin. Refusals: 4, 5, 10, 14, 6, 9. */
+uint32_t film_margin(uint32_t rows, uint32_t columns, uint32_t ceiling,
+                     const uint16_t *weights, size_t weights_len, const uint32_t *diagonals, size_t diagonals_len,
+                     const uint32_t *rights, size_t rights_len, const uint32_t *ups, size_t ups_len,
+                     const int64_t *sources, size_t sources_len,
+                     uint32_t *margin, size_t *place);
+
+/* Proposes the C pressures of `proposal` for a line. Writes to result[0] 1 if they were accepted, 0 if they were rejected; and to
+ * result[1] the number of cells raised. A rejected proposal leaves the field as it was.
+ * Refusals: 4, 5, 10, 14, 6, 9, 12, 13. */
+uint32_t film_propose(uint32_t rows, uint32_t columns, uint32_t ceiling,
+                      const uint16_t *weights, size_t weights_len, const uint32_t *diagonals, size_t diagonals_len,
+                      const uint32_t *rights, size_t rights_len, const uint32_t *ups, size_t ups_len,
+                      const int64_t *sources, size_t sources_len,
+                      uint32_t *field, size_t field_len, uint32_t line,
+                      const uint32_t *proposal, size_t proposal_len, uint32_t result[2], size_t *place);
+
+/* Writes the program's own proposal for a line into the C elements of `proposal`. Refusals: 4, 5, 10, 14, 6, 9, 12, 13. */
+uint32_t film_estimate(uint32_t rows, uint32_t columns, uint32_t ceiling,
+                       const uint16_t *weights, size_t weights_len, const uint32_t *diagonals, size_t diagonals_len,
+                       const uint32_t *rights, size_t rights_len, const uint32_t *ups, size_t ups_len,
+                       const int64_t *sources, size_t sources_len,
+                       const uint32_t *field, size_t field_len, uint32_t line,
+                       uint32_t *proposal, size_t proposal_len, size_t *place);
+
+/* Makes a run: at most `budget` relaxations by ordering 0, 1 or 2 (rising, falling, even cells before odd), with the program's own
+ * proposals for all lines before them or without. Writes to result[0]: 0 done, 1 stopped, 2 over; to result[1] the relaxations made, to
+ * result[2] the raises among them, to result[3] the cells raised by proposals; and, if over, the cell that would pass the ceiling to *cell,
+ * which is left as it was otherwise. Done leaves the least field at or above the start that meets the film.
+ * Refusals: 4, 5, 10, 14, 6, 9, 11, 12. */
+uint32_t film_run(uint32_t rows, uint32_t columns, uint32_t ceiling,
+                  const uint16_t *weights, size_t weights_len, const uint32_t *diagonals, size_t diagonals_len,
+                  const uint32_t *rights, size_t rights_len, const uint32_t *ups, size_t ups_len,
+                  const int64_t *sources, size_t sources_len,
+                  uint32_t *field, size_t field_len, uint32_t budget, uint32_t order, bool proposals,
+                  uint32_t result[4], size_t *cell, size_t *place);
+
+/* Writes the report of a film file at the start of `out` and its length to *length; `out` has at least 33,288 elements, and those beyond the
+ * report keep their contents. A file that is refused has a report too, which says so. Refusal: 10. */
+uint32_t film_report(const uint8_t *file, size_t file_len, uint8_t *out, size_t out_len, size_t *length, size_t *place);
+
+#ifdef __cplusplus
+}
+#endif
+
+#endif
