@@ -1,0 +1,270 @@
+//! Reading a film file, forming coefficients and printing the report, in plain Rust: what Film's
+//! calls do, with the same tests, as one would write it without proofs.
+
+use crate::calls::{Lent, Refused};
+use crate::plain;
+use crate::problem::System;
+use film_oracle::film::Film;
+use std::fmt::Write;
+
+/// A film's numbers as slices.
+#[derive(Clone, Copy)]
+pub struct Numbers<'a> {
+    pub rows: usize,
+    pub columns: usize,
+    pub ceiling: u32,
+    pub weights: &'a [u16],
+    pub thicknesses: &'a [u8],
+    pub wedge: i32,
+}
+
+impl<'a> Numbers<'a> {
+    pub fn of(film: &'a Film) -> Numbers<'a> {
+        Numbers {
+            rows: film.rows,
+            columns: film.columns,
+            ceiling: film.ceiling,
+            weights: &film.weights,
+            thicknesses: &film.thickness,
+            wedge: film.wedge,
+        }
+    }
+
+    /// Thickness at row 0 to R + 1 and column 0 to C + 1.
+    fn thickness(&self, row: usize, column: usize) -> u32 {
+        self.thicknesses[row * (self.columns + 2) + column].into()
+    }
+
+    /// Links of a cell to those before, after, below and above, the ring included.
+    fn links(&self, row: usize, column: usize) -> [u32; 4] {
+        let here = self.thickness(row, column);
+        [
+            self.thickness(row, column - 1),
+            self.thickness(row, column + 1),
+            self.thickness(row - 1, column),
+            self.thickness(row + 1, column),
+        ]
+        .map(|there| (here + there).pow(3))
+    }
+
+    /// Weighted row sum.
+    fn dominance(&self, row: usize, column: usize) -> i64 {
+        let (rows, columns) = (self.rows, self.columns);
+        let cell = (row - 1) * columns + column - 1;
+        let [before, after, below, above] = self.links(row, column).map(i64::from);
+        let weight = |inside: bool, at: usize| {
+            if inside {
+                self.weights[at].into()
+            } else {
+                0
+            }
+        };
+        (before + after + below + above) * i64::from(self.weights[cell])
+            - before * weight(column > 1, cell.wrapping_sub(1))
+            - after * weight(column < columns, cell + 1)
+            - below * weight(row > 1, cell.wrapping_sub(columns))
+            - above * weight(row < rows, cell + columns)
+    }
+
+    fn not_dominant(&self) -> Result<(), Refused> {
+        for row in 1..=self.rows {
+            for column in 1..=self.columns {
+                if self.dominance(row, column) < 1 {
+                    return Err((9, (row - 1) * self.columns + column - 1));
+                }
+            }
+        }
+        Ok(())
+    }
+}
+
+/// Reads a file into the lent buffers; hands back rows, columns, ceiling and wedge.
+#[inline(never)]
+pub fn read(
+    file: &[u8],
+    weights: &mut [u16],
+    thicknesses: &mut [u8],
+) -> Result<([u32; 3], i32), Refused> {
+    if weights.len() != 1_024 || thicknesses.len() != 1_156 {
+        return Err((10, 0));
+    }
+    let shape = body(file, 0, 1, 2)?;
+    let (rows, columns) = (usize::from(shape[0]), usize::from(shape[1]));
+    test_shape(rows, columns)?;
+    let cells = rows * columns;
+    let ceiling = long(body(file, 5, 2, 4)?);
+    test((1..=16_777_216).contains(&ceiling), 5, 8)?;
+    let mut found = [0; 1_024];
+    let pairs = body(file, 12, 3, 2 * cells)?.chunks_exact(2);
+    for (weight, pair) in found.iter_mut().zip(pairs) {
+        *weight = u16::from_be_bytes([pair[0], pair[1]]);
+    }
+    test_weights(&found[..cells])?;
+    let ringed = (rows + 2) * (columns + 2);
+    let gauged = body(file, 15 + 2 * cells, 4, ringed)?;
+    test_thicknesses(gauged, cells)?;
+    let wedge = long(body(file, 18 + 2 * cells + ringed, 5, 4)?) as i32;
+    test_wedge(wedge, cells, ringed)?;
+    let end = 25 + 2 * cells + ringed;
+    test(file.len() == end, 2, end)?;
+    Numbers {
+        rows,
+        columns,
+        ceiling,
+        weights: &found[..cells],
+        thicknesses: gauged,
+        wedge,
+    }
+    .not_dominant()?;
+    weights[..cells].copy_from_slice(&found[..cells]);
+    thicknesses[..ringed].copy_from_slice(gauged);
+    Ok(([rows as u32, columns as u32, ceiling], wedge))
+}
+
+/// One field: header, tag, length, presence of the body.
+fn body(file: &[u8], at: usize, tag: u8, length: usize) -> Result<&[u8], Refused> {
+    test(file.len() >= at + 3, 1, file.len())?;
+    test(file[at] == tag, 2, at)?;
+    let told = u16::from_be_bytes([file[at + 1], file[at + 2]]);
+    test(usize::from(told) == length, 3, at)?;
+    test(file.len() >= at + 3 + length, 1, file.len())?;
+    Ok(&file[at + 3..at + 3 + length])
+}
+
+fn long(body: &[u8]) -> u32 {
+    u32::from_be_bytes([body[0], body[1], body[2], body[3]])
+}
+
+fn test(passed: bool, number: u32, place: usize) -> Result<(), Refused> {
+    if passed {
+        Ok(())
+    } else {
+        Err((number, place))
+    }
+}
+
+fn test_shape(rows: usize, columns: usize) -> Result<(), Refused> {
+    test((1..=32).contains(&rows), 4, 3)?;
+    test((1..=32).contains(&columns), 4, 4)
+}
+
+fn test_weights(weights: &[u16]) -> Result<(), Refused> {
+    match weights.iter().position(|&weight| weight == 0) {
+        Some(cell) => Err((6, 15 + 2 * cell)),
+        None => Ok(()),
+    }
+}
+
+fn test_thicknesses(thicknesses: &[u8], cells: usize) -> Result<(), Refused> {
+    match thicknesses.iter().position(|h| !(1..=128).contains(h)) {
+        Some(number) => Err((7, 18 + 2 * cells + number)),
+        None => Ok(()),
+    }
+}
+
+fn test_wedge(wedge: i32, cells: usize, ringed: usize) -> Result<(), Refused> {
+    let passed = (-1_000_000_000..=1_000_000_000).contains(&wedge);
+    test(passed, 8, 21 + 2 * cells + ringed)
+}
+
+/// Forms the coefficients of a film's numbers in the lent slices.
+#[inline(never)]
+pub fn form(film: Numbers, lent: &mut Lent) -> Result<(), Refused> {
+    test_shape(film.rows, film.columns)?;
+    let cells = film.rows * film.columns;
+    let ringed = (film.rows + 2) * (film.columns + 2);
+    let lengths = [
+        film.weights.len(),
+        lent.diagonals.len(),
+        lent.rights.len(),
+        lent.ups.len(),
+        lent.sources.len(),
+    ];
+    test(
+        lengths == [cells; 5] && film.thicknesses.len() == ringed,
+        10,
+        0,
+    )?;
+    test((1..=16_777_216).contains(&film.ceiling), 5, 8)?;
+    test_weights(film.weights)?;
+    test_thicknesses(film.thicknesses, cells)?;
+    test_wedge(film.wedge, cells, ringed)?;
+    film.not_dominant()?;
+    fill(film, lent);
+    Ok(())
+}
+
+fn fill(film: Numbers, lent: &mut Lent) {
+    for row in 1..=film.rows {
+        for column in 1..=film.columns {
+            let cell = (row - 1) * film.columns + column - 1;
+            let [before, after, below, above] = film.links(row, column);
+            lent.diagonals[cell] = before + after + below + above;
+            lent.rights[cell] = if column < film.columns { after } else { 0 };
+            lent.ups[cell] = if row < film.rows { above } else { 0 };
+            let rise = i64::from(film.thickness(row, column + 1))
+                - i64::from(film.thickness(row, column - 1));
+            lent.sources[cell] = i64::from(film.wedge) * rise;
+        }
+    }
+}
+
+/// The report of an accepted film's file that is Done, after those tests that reading makes.
+#[inline(never)]
+pub fn report(file: &[u8], text: &mut String) -> Result<(), Refused> {
+    let (mut weights, mut thicknesses) = ([0; 1_024], [0; 1_156]);
+    let ([rows, columns, ceiling], wedge) = read(file, &mut weights, &mut thicknesses)?;
+    let (rows, columns) = (rows as usize, columns as usize);
+    let cells = rows * columns;
+    let film = Numbers {
+        rows,
+        columns,
+        ceiling,
+        weights: &weights[..cells],
+        thicknesses: &thicknesses[..(rows + 2) * (columns + 2)],
+        wedge,
+    };
+    let mut lent = Lent::new(cells);
+    fill(film, &mut lent);
+    let system = System {
+        rows,
+        columns,
+        ceiling,
+        weights: film.weights,
+        diagonals: &lent.diagonals,
+        rights: &lent.rights,
+        ups: &lent.ups,
+        sources: &lent.sources,
+    };
+    let mut field = vec![0; cells];
+    let counts = plain::run(system, &plain::forward(cells), &mut field, 4_000_000);
+    text.clear();
+    print(system, &field, counts, text).expect("text grows");
+    Ok(())
+}
+
+fn print(
+    system: System,
+    field: &[u32],
+    counts: plain::Counts,
+    text: &mut String,
+) -> std::fmt::Result {
+    let place = |cell: usize| (cell / system.columns + 1, cell % system.columns + 1);
+    writeln!(
+        text,
+        "FILM {} {} CEILING {}",
+        system.rows, system.columns, system.ceiling
+    )?;
+    writeln!(text, "DONE {} {}", counts.visits, counts.raises)?;
+    let mut peak = 0;
+    for (cell, pressure) in field.iter().enumerate() {
+        let (row, column) = place(cell);
+        let slack = plain::slack(system, field, cell);
+        writeln!(text, "{row} {column} {pressure} {slack}")?;
+        if field[peak] < *pressure {
+            peak = cell;
+        }
+    }
+    let (row, column) = place(peak);
+    writeln!(text, "PEAK {row} {column} {}", field[peak])
+}

@@ -1,0 +1,150 @@
+//! Reading a film file, forming coefficients, and printing the report.
+
+use crate::calls::{self, Lent};
+use crate::clock::by_turns;
+use crate::page::{remark, Section};
+use crate::plain_file::{self, Numbers};
+use crate::problem::at_rest;
+use film_oracle::coefficients::form;
+use film_oracle::film::{read, write, Film};
+use film_oracle::report::report;
+use film_oracle::samples;
+use std::hint::black_box;
+
+/// The longest report.
+const LONGEST: usize = 33_288;
+
+const NOTE: &str = "\
+Each call and plain Rust doing the same with the same tests; the report in Rust prints with `writeln!`.
+Nanoseconds a call. Buffers and slices are lent again from call to call and not cleared: each call writes
+all that it uses. The film at rest (32 × 32) is Done after one quiet round, so that its report is mostly
+printing; film F has two cells.";
+
+pub fn section() -> Section {
+    let films = [
+        ("film-f.film, 1 × 2", samples::film_f()),
+        ("journal.film, 16 × 32", samples::journal()),
+        ("at rest, 32 × 32", at_rest()),
+    ];
+    let mut rows = Vec::new();
+    for (name, film) in &films {
+        rows.push(row("read", name, read_times(film)));
+    }
+    for (name, film) in &films {
+        rows.push(row("form", name, form_times(film)));
+    }
+    for (name, film) in [&films[0], &films[2]] {
+        rows.push(row("report", name, report_times(film)));
+    }
+    Section {
+        title: "4. Reading, forming coefficients, the report",
+        note: NOTE.to_string(),
+        heads: vec!["call", "film", "Film ns", "Rust ns", "time ratio", ""],
+        rows,
+    }
+}
+
+fn row(call: &str, name: &str, [film, rust]: [f64; 2]) -> Vec<String> {
+    vec![
+        call.to_string(),
+        name.to_string(),
+        format!("{film:.0}"),
+        format!("{rust:.0}"),
+        format!("{:.3}", film / rust),
+        remark(film / rust),
+    ]
+}
+
+/// The reader's two buffers.
+struct Buffers {
+    weights: [u16; 1_024],
+    thicknesses: [u8; 1_156],
+}
+
+impl Buffers {
+    fn new() -> Buffers {
+        Buffers {
+            weights: [0; 1_024],
+            thicknesses: [0; 1_156],
+        }
+    }
+
+    /// They hold the film that the oracle reads from the file.
+    fn hold(&self, film: &Film, ([rows, columns, ceiling], wedge): ([u32; 3], i32)) -> bool {
+        let numbers = (
+            film.rows as u32,
+            film.columns as u32,
+            film.ceiling,
+            film.wedge,
+        );
+        numbers == (rows, columns, ceiling, wedge)
+            && self.weights.starts_with(&film.weights)
+            && self.thicknesses.starts_with(&film.thickness)
+    }
+}
+
+fn read_times(film: &Film) -> [f64; 2] {
+    let file = write(film);
+    let expected = read(&file).expect("an accepted film");
+    let (mut one, mut other) = (Buffers::new(), Buffers::new());
+    let found = calls::read(&file, &mut one.weights, &mut one.thicknesses);
+    assert!(
+        one.hold(&expected, found.expect("accepted")),
+        "Film's reading"
+    );
+    let found = plain_file::read(&file, &mut other.weights, &mut other.thicknesses);
+    assert!(
+        other.hold(&expected, found.expect("accepted")),
+        "Rust's reading"
+    );
+    by_turns([
+        &mut || {
+            let _ = black_box(calls::read(&file, &mut one.weights, &mut one.thicknesses));
+        },
+        &mut || {
+            let _ = black_box(plain_file::read(
+                &file,
+                &mut other.weights,
+                &mut other.thicknesses,
+            ));
+        },
+    ])
+}
+
+fn form_times(film: &Film) -> [f64; 2] {
+    let expected = form(film);
+    let (mut one, mut other) = (Lent::new(film.cells()), Lent::new(film.cells()));
+    calls::form(film, &mut one).expect("an accepted film");
+    plain_file::form(Numbers::of(film), &mut other).expect("an accepted film");
+    assert!(one == other, "Film's coefficients and Rust's");
+    let wide: Vec<i128> = one.diagonals.iter().map(|&number| number.into()).collect();
+    assert!(wide == expected.diagonals, "the oracle's diagonals");
+    let wide: Vec<i128> = one.sources.iter().map(|&number| number.into()).collect();
+    assert!(wide == expected.sources, "the oracle's sources");
+    by_turns([
+        &mut || {
+            let _ = black_box(calls::form(film, &mut one));
+        },
+        &mut || {
+            let _ = black_box(plain_file::form(Numbers::of(film), &mut other));
+        },
+    ])
+}
+
+fn report_times(film: &Film) -> [f64; 2] {
+    let file = write(film);
+    let expected = report(&file);
+    let (mut out, mut text) = (vec![0; LONGEST], String::new());
+    let length = calls::report(&file, &mut out).expect("room enough");
+    assert!(out[..length] == expected, "Film's report");
+    plain_file::report(&file, &mut text).expect("an accepted film");
+    assert!(text.as_bytes() == expected, "Rust's report");
+    by_turns([
+        &mut || {
+            let _ = black_box(calls::report(&file, &mut out));
+        },
+        &mut || {
+            let _ = black_box(plain_file::report(&file, &mut text));
+        },
+    ])
+}

@@ -1,0 +1,7 @@
+//! The sections of the page, one module for each.
+
+pub mod files;
+pub mod growth;
+pub mod proposals;
+pub mod real_numbers;
+pub mod relaxations;
