@@ -3,7 +3,7 @@
 use std::time::Instant;
 
 /// How often each side has its turn; its best turn counts.
-pub const TURNS: usize = 61;
+pub const TURNS: usize = 201;
 
 /// A turn repeats a short call until it takes about this many seconds.
 const TURN: f64 = 0.001;

@@ -39,7 +39,7 @@ impl Page {
 }
 
 impl Section {
-    /// Columns as wide as their widest entry: the first to the left, the others to the right.
+    /// Columns as wide as their widest entry: words to the left, numbers to the right.
     fn columns(&self) -> String {
         let lines = self.lines();
         let widths: Vec<usize> = (0..self.heads.len())
@@ -49,7 +49,7 @@ impl Section {
         let mut text = String::new();
         for line in lines.iter().filter(|_| !self.rows.is_empty()) {
             let cells: Vec<String> = (0..line.len())
-                .map(|column| padded(&line[column], widths[column], column == 0))
+                .map(|column| padded(&line[column], widths[column], self.words(column)))
                 .collect();
             text += &format!("  {}\n", cells.join("  ").trim_end());
         }
@@ -61,10 +61,16 @@ impl Section {
             return String::new();
         }
         let mut lines = self.lines();
-        let rule = |column| if column == 0 { "---" } else { "---:" }.to_string();
+        let rule = |column| if self.words(column) { "---" } else { "---:" }.to_string();
         lines.insert(1, (0..self.heads.len()).map(rule).collect());
         let bar = |line: &Vec<String>| format!("| {} |\n", line.join(" | "));
         format!("\n{}", lines.iter().map(bar).collect::<String>())
+    }
+
+    /// The first column, and every other one that has no number in it.
+    fn words(&self, column: usize) -> bool {
+        let number = |row: &Vec<String>| row[column].starts_with(|c: char| c.is_ascii_digit());
+        column == 0 || !self.rows.iter().any(number)
     }
 
     fn lines(&self) -> Vec<Vec<String>> {

@@ -9,18 +9,22 @@ use film_oracle::coefficients::form;
 use film_oracle::film::{read, write, Film};
 use film_oracle::report::report;
 use film_oracle::samples;
+use film_oracle::vectors;
 use std::hint::black_box;
 
 /// The longest report.
 const LONGEST: usize = 33_288;
 
 const NOTE: &str = "\
-Each call and plain Rust doing the same with the same tests; the report in Rust prints with `writeln!`.
-Nanoseconds a call. Buffers and slices are lent again from call to call and not cleared: each call writes
-all that it uses. The film at rest (32 × 32) is Done after one quiet round, so that its report is mostly
-printing; film F has two cells.";
+Each call and plain Rust doing the same with the same tests. Reading is checked to agree on every test vector of
+the oracle, refused files among them. The report in Rust prints with `writeln!`. Nanoseconds a call. Buffers and
+slices are lent again from call to call and not cleared: each call writes all that it uses. The film at rest
+(32 × 32) is Done after one quiet round, so that its report is mostly printing; film F has two cells.";
 
 pub fn section() -> Section {
+    vectors::all()
+        .iter()
+        .for_each(|(name, file)| check_read(name, file));
     let films = [
         ("film-f.film, 1 × 2", samples::film_f()),
         ("journal.film, 16 × 32", samples::journal()),
@@ -83,20 +87,34 @@ impl Buffers {
     }
 }
 
+/// Film, plain Rust and the oracle read the same film from a file, or refuse it alike.
+fn check_read(name: &str, file: &[u8]) {
+    let (mut one, mut other) = (Buffers::new(), Buffers::new());
+    let found = calls::read(file, &mut one.weights, &mut one.thicknesses);
+    let again = plain_file::read(file, &mut other.weights, &mut other.thicknesses);
+    match read(file) {
+        Ok(film) => {
+            let held = |buffers: &Buffers, numbers| buffers.hold(&film, numbers);
+            assert!(
+                found.is_ok_and(|numbers| held(&one, numbers)),
+                "Film reads {name}"
+            );
+            assert!(
+                again.is_ok_and(|numbers| held(&other, numbers)),
+                "Rust reads {name}"
+            );
+        }
+        Err(refusal) => {
+            let refused = Err((refusal.number.into(), refusal.place));
+            assert!(found == refused && again == refused, "refusal of {name}");
+        }
+    }
+}
+
 fn read_times(film: &Film) -> [f64; 2] {
     let file = write(film);
-    let expected = read(&file).expect("an accepted film");
+    check_read("a measured film", &file);
     let (mut one, mut other) = (Buffers::new(), Buffers::new());
-    let found = calls::read(&file, &mut one.weights, &mut one.thicknesses);
-    assert!(
-        one.hold(&expected, found.expect("accepted")),
-        "Film's reading"
-    );
-    let found = plain_file::read(&file, &mut other.weights, &mut other.thicknesses);
-    assert!(
-        other.hold(&expected, found.expect("accepted")),
-        "Rust's reading"
-    );
     by_turns([
         &mut || {
             let _ = black_box(calls::read(&file, &mut one.weights, &mut one.thicknesses));

@@ -16,9 +16,9 @@ const NOTE: &str = "\
 visits). Both ratios are `with` by `without`. All six runs of a problem end in the same field, and their counts
 are the oracle's, which is checked. A round is N visits. The field is cleared before each run, in the time of
 both. 002 is source paper 002's bearing (ε = 0.8, D/L = 1), its own matrix in whole numbers, a row for each of
-its blocks; `as a film` is that bearing gauged at equal steps, thickness 70 × (1 + 0.8 cos θ) rounded. Beside
-them the paper's Table 1: iterations of its block method and of point SOR, each at its best ω, until the largest
-residual is below 10⁻⁷.";
+its blocks and pressures in thousandths; `as a film` is that bearing gauged at equal steps (D/L = 1/π), thickness
+70 × (1 + 0.8 cos θ) rounded. Beside them the paper's Table 1: iterations of its block method and of point SOR,
+each at its best ω, until the largest residual is below 10⁻⁷.";
 
 const HEADS: [&str; 12] = [
     "problem",
@@ -120,7 +120,7 @@ fn row(name: &str, problem: &Problem, order: u32, iterations: &str) -> Vec<Strin
     ]
 }
 
-/// Film's run and the oracle's have the same counts and leave the same field, Done.
+/// Film's run and the oracle's have the same counts and end in the one least field.
 fn agreed(problem: &Problem, order: u32, proposals: bool) -> Ran {
     let (outcome, expected) = problem.oracle_run(AMPLE, order, proposals);
     let mut field = problem.zeros();
@@ -135,6 +135,7 @@ fn agreed(problem: &Problem, order: u32, proposals: bool) -> Ran {
         outcome.answer == Answer::Done && ran == told,
         "the oracle's counts"
     );
-    assert!(field == expected, "the oracle's field");
+    let (_, least) = problem.oracle_run(AMPLE, 0, false);
+    assert!(field == expected && field == least, "the least field");
     ran
 }

@@ -22,7 +22,7 @@ sweep in which no plain step would change a pressure by one pressure step or mor
 rule at every cell, which is checked. A round is N relaxations. `off` is the largest distance from the real
 solution in pressure steps, `peak` the greatest pressure in them; Film's field is nowhere below the real one,
 which is checked. Fields are cleared before each run, in the time of all sides. 002 is source paper 002's
-bearing (ε = 0.8, D/L = 1), its own matrix in whole numbers.";
+bearing (ε = 0.8, D/L = 1), its own matrix in whole numbers and its pressures in thousandths.";
 
 const HEADS: [&str; 12] = [
     "problem",
