@@ -1,0 +1,35 @@
+//! Least pressure fields of gauged oil films.
+//!
+//! A bearing bench gauges the oil film under a pad on a grid of up to 32 × 32 cells. From these
+//! thicknesses the library forms the coefficients of Reynolds' difference equation with cavitation,
+//! and finds the least whole-step pressure field that they allow, by monotone relaxation.
+//!
+//! The work is done by the library `film_c`, whose calls are proved: for every input, each answers
+//! what the specification says, or names one refusal and changes nothing. This package holds a
+//! film's numbers and gives the calls Rust's types.
+//!
+//! ```
+//! use film::{Field, Film, Order, Outcome};
+//!
+//! // Film F: one row of two cells inside a ring of boundary thicknesses.
+//! let thicknesses = vec![1, 1, 1, 1, 3, 2, 1, 1, 1, 1, 1, 1];
+//! let film = Film::from_parts(1, 2, 100, vec![1, 1], thicknesses, 100)?;
+//! let mut field = Field::zero(&film);
+//! let outcome = film.run(&mut field, 1_000, Order::Forward, false)?;
+//! assert!(matches!(outcome, Outcome::Done(_)));
+//! assert_eq!(field.pressures(), [2, 4]);
+//! # Ok::<(), film::Refusal>(())
+//! ```
+
+mod answers;
+mod field;
+mod gauged;
+mod raw;
+mod refusal;
+mod report;
+
+pub use answers::{Counts, Order, Outcome, Proposed, Relaxed};
+pub use field::Field;
+pub use gauged::Film;
+pub use refusal::Refusal;
+pub use report::report;

@@ -1,0 +1,534 @@
+//! The library's C functions, and for each a safe function on slices. All `unsafe` is here.
+//!
+//! Why the calls are sound: the functions ask nothing of the numbers that they get. Any lengths and
+//! values are answered or refused, and proved to be. What C can't promise, Rust's types do here:
+//! each pointer comes from a reference that lives through the call, each length is that of the same
+//! slice, and what is written was lent by `&mut`, so nothing else points to it. No function keeps a
+//! pointer, calls back or unwinds.
+//!
+//! Each answers 0, or the number of a refusal; then `place` has its place and nothing else has
+//! changed.
+
+/// A film as coefficients, one number of each slice a cell.
+#[derive(Clone, Copy)]
+pub(crate) struct Problem<'a> {
+    pub(crate) rows: u32,
+    pub(crate) columns: u32,
+    pub(crate) ceiling: u32,
+    pub(crate) weights: &'a [u16],
+    pub(crate) diagonals: &'a [u32],
+    pub(crate) rights: &'a [u32],
+    pub(crate) ups: &'a [u32],
+    pub(crate) sources: &'a [i64],
+}
+
+/// A film as it was gauged: the numbers of a film file.
+#[derive(Clone, Copy)]
+pub(crate) struct Gauge<'a> {
+    pub(crate) rows: u32,
+    pub(crate) columns: u32,
+    pub(crate) ceiling: u32,
+    pub(crate) weights: &'a [u16],
+    pub(crate) thicknesses: &'a [u8],
+    pub(crate) wedge: i32,
+}
+
+/// Lent slices that `form` fills.
+pub(crate) struct Formed<'a> {
+    pub(crate) diagonals: &'a mut [u32],
+    pub(crate) rights: &'a mut [u32],
+    pub(crate) ups: &'a mut [u32],
+    pub(crate) sources: &'a mut [i64],
+}
+
+/// What a run tells.
+#[derive(Clone, Copy, Debug, Default, PartialEq, Eq)]
+pub(crate) struct Ran {
+    /// 0 done, 1 stopped, 2 over; visits; raises; cells raised by proposals.
+    pub(crate) result: [u32; 4],
+    /// The cell of over; else unchanged.
+    pub(crate) cell: usize,
+    pub(crate) place: usize,
+}
+
+/// Reads a film file into `weights`, 1,024 of them, and `thicknesses`, 1,156. `head` gets rows,
+/// columns and ceiling.
+pub(crate) fn read(
+    file: &[u8],
+    weights: &mut [u16],
+    thicknesses: &mut [u8],
+    head: &mut [u32; 3],
+    wedge: &mut i32,
+    place: &mut usize,
+) -> u32 {
+    // SAFETY: `file` is read within its length; the two buffers are written within theirs, and they
+    // and the three results are lent by `&mut`.
+    unsafe {
+        film_read(
+            file.as_ptr(),
+            file.len(),
+            weights.as_mut_ptr(),
+            weights.len(),
+            thicknesses.as_mut_ptr(),
+            thicknesses.len(),
+            head,
+            wedge,
+            place,
+        )
+    }
+}
+
+/// Writes a film file into `out`, which must have exactly its length.
+pub(crate) fn write(gauge: Gauge, out: &mut [u8], place: &mut usize) -> u32 {
+    // SAFETY: weights and thicknesses are read within their lengths; `out` is written within its
+    // own, and it and `place` are lent by `&mut`.
+    unsafe {
+        film_write(
+            gauge.rows,
+            gauge.columns,
+            gauge.ceiling,
+            gauge.weights.as_ptr(),
+            gauge.weights.len(),
+            gauge.thicknesses.as_ptr(),
+            gauge.thicknesses.len(),
+            gauge.wedge,
+            out.as_mut_ptr(),
+            out.len(),
+            place,
+        )
+    }
+}
+
+/// Forms coefficients.
+pub(crate) fn form(gauge: Gauge, formed: Formed, place: &mut usize) -> u32 {
+    // SAFETY: weights and thicknesses are read within their lengths; the four slices are written
+    // within theirs, and they and `place` are lent by `&mut`, so that none overlaps another.
+    unsafe {
+        film_form(
+            gauge.rows,
+            gauge.columns,
+            gauge.ceiling,
+            gauge.weights.as_ptr(),
+            gauge.weights.len(),
+            gauge.thicknesses.as_ptr(),
+            gauge.thicknesses.len(),
+            gauge.wedge,
+            formed.diagonals.as_mut_ptr(),
+            formed.diagonals.len(),
+            formed.rights.as_mut_ptr(),
+            formed.rights.len(),
+            formed.ups.as_mut_ptr(),
+            formed.ups.len(),
+            formed.sources.as_mut_ptr(),
+            formed.sources.len(),
+            place,
+        )
+    }
+}
+
+/// Relaxes cell `at`. `result`: 0 quiet, 1 raised, 2 over; the pressure raised to, else 0.
+pub(crate) fn relax(
+    problem: Problem,
+    field: &mut [u32],
+    at: usize,
+    result: &mut [u32; 2],
+    place: &mut usize,
+) -> u32 {
+    // SAFETY: the film's slices are read within their lengths; `field` is written within its own,
+    // and it, `result` and `place` are lent by `&mut`. Any `at` will do.
+    unsafe {
+        film_relax(
+            problem.rows,
+            problem.columns,
+            problem.ceiling,
+            problem.weights.as_ptr(),
+            problem.weights.len(),
+            problem.diagonals.as_ptr(),
+            problem.diagonals.len(),
+            problem.rights.as_ptr(),
+            problem.rights.len(),
+            problem.ups.as_ptr(),
+            problem.ups.len(),
+            problem.sources.as_ptr(),
+            problem.sources.len(),
+            field.as_mut_ptr(),
+            field.len(),
+            at,
+            result,
+            place,
+        )
+    }
+}
+
+/// The slack of cell `at`.
+pub(crate) fn slack(
+    problem: Problem,
+    field: &[u32],
+    at: usize,
+    slack: &mut i64,
+    place: &mut usize,
+) -> u32 {
+    // SAFETY: the film's slices and `field` are read within their lengths; `slack` and `place` are
+    // lent by `&mut`. Any `at` will do.
+    unsafe {
+        film_slack(
+            problem.rows,
+            problem.columns,
+            problem.ceiling,
+            problem.weights.as_ptr(),
+            problem.weights.len(),
+            problem.diagonals.as_ptr(),
+            problem.diagonals.len(),
+            problem.rights.as_ptr(),
+            problem.rights.len(),
+            problem.ups.as_ptr(),
+            problem.ups.len(),
+            problem.sources.as_ptr(),
+            problem.sources.len(),
+            field.as_ptr(),
+            field.len(),
+            at,
+            slack,
+            place,
+        )
+    }
+}
+
+/// The film's margin.
+pub(crate) fn margin(problem: Problem, margin: &mut u32, place: &mut usize) -> u32 {
+    // SAFETY: the film's slices are read within their lengths; `margin` and `place` are lent by
+    // `&mut`.
+    unsafe {
+        film_margin(
+            problem.rows,
+            problem.columns,
+            problem.ceiling,
+            problem.weights.as_ptr(),
+            problem.weights.len(),
+            problem.diagonals.as_ptr(),
+            problem.diagonals.len(),
+            problem.rights.as_ptr(),
+            problem.rights.len(),
+            problem.ups.as_ptr(),
+            problem.ups.len(),
+            problem.sources.as_ptr(),
+            problem.sources.len(),
+            margin,
+            place,
+        )
+    }
+}
+
+/// Proposes pressures for a line. `result`: 1 accepted, 0 rejected; the number of cells raised.
+pub(crate) fn propose(
+    problem: Problem,
+    field: &mut [u32],
+    line: u32,
+    proposal: &[u32],
+    result: &mut [u32; 2],
+    place: &mut usize,
+) -> u32 {
+    // SAFETY: the film's slices and `proposal` are read within their lengths; `field` is written
+    // within its own, and it, `result` and `place` are lent by `&mut`. Any `line` will do.
+    unsafe {
+        film_propose(
+            problem.rows,
+            problem.columns,
+            problem.ceiling,
+            problem.weights.as_ptr(),
+            problem.weights.len(),
+            problem.diagonals.as_ptr(),
+            problem.diagonals.len(),
+            problem.rights.as_ptr(),
+            problem.rights.len(),
+            problem.ups.as_ptr(),
+            problem.ups.len(),
+            problem.sources.as_ptr(),
+            problem.sources.len(),
+            field.as_mut_ptr(),
+            field.len(),
+            line,
+            proposal.as_ptr(),
+            proposal.len(),
+            result,
+            place,
+        )
+    }
+}
+
+/// Writes the program's own proposal for a line.
+pub(crate) fn estimate(
+    problem: Problem,
+    field: &[u32],
+    line: u32,
+    proposal: &mut [u32],
+    place: &mut usize,
+) -> u32 {
+    // SAFETY: the film's slices and `field` are read within their lengths; `proposal` is written
+    // within its own, and it and `place` are lent by `&mut`. Any `line` will do.
+    unsafe {
+        film_estimate(
+            problem.rows,
+            problem.columns,
+            problem.ceiling,
+            problem.weights.as_ptr(),
+            problem.weights.len(),
+            problem.diagonals.as_ptr(),
+            problem.diagonals.len(),
+            problem.rights.as_ptr(),
+            problem.rights.len(),
+            problem.ups.as_ptr(),
+            problem.ups.len(),
+            problem.sources.as_ptr(),
+            problem.sources.len(),
+            field.as_ptr(),
+            field.len(),
+            line,
+            proposal.as_mut_ptr(),
+            proposal.len(),
+            place,
+        )
+    }
+}
+
+/// Runs relaxations by an ordering, with proposals first if they are on.
+pub(crate) fn run(
+    problem: Problem,
+    field: &mut [u32],
+    budget: u32,
+    order: u32,
+    proposals: bool,
+    ran: &mut Ran,
+) -> u32 {
+    // SAFETY: the film's slices are read within their lengths; `field` is written within its own;
+    // it and the three parts of `ran`, which lie apart, are lent by `&mut`. Rust's `bool` is C's.
+    // Any budget and order will do.
+    unsafe {
+        film_run(
+            problem.rows,
+            problem.columns,
+            problem.ceiling,
+            problem.weights.as_ptr(),
+            problem.weights.len(),
+            problem.diagonals.as_ptr(),
+            problem.diagonals.len(),
+            problem.rights.as_ptr(),
+            problem.rights.len(),
+            problem.ups.as_ptr(),
+            problem.ups.len(),
+            problem.sources.as_ptr(),
+            problem.sources.len(),
+            field.as_mut_ptr(),
+            field.len(),
+            budget,
+            order,
+            proposals,
+            &mut ran.result,
+            &mut ran.cell,
+            &mut ran.place,
+        )
+    }
+}
+
+/// Writes the report of a file into `out`, of at least 33,288 bytes, and its length.
+pub(crate) fn report(file: &[u8], out: &mut [u8], length: &mut usize, place: &mut usize) -> u32 {
+    // SAFETY: `file` is read within its length; `out` is written within its own, and it, `length`
+    // and `place` are lent by `&mut`.
+    unsafe {
+        film_report(
+            file.as_ptr(),
+            file.len(),
+            out.as_mut_ptr(),
+            out.len(),
+            length,
+            place,
+        )
+    }
+}
+
+// As in include/film.h: a slice is a pointer and a length.
+extern "C" {
+    fn film_read(
+        file: *const u8,
+        file_len: usize,
+        weights: *mut u16,
+        weights_len: usize,
+        thicknesses: *mut u8,
+        thicknesses_len: usize,
+        head: *mut [u32; 3],
+        wedge: *mut i32,
+        place: *mut usize,
+    ) -> u32;
+
+    fn film_write(
+        rows: u32,
+        columns: u32,
+        ceiling: u32,
+        weights: *const u16,
+        weights_len: usize,
+        thicknesses: *const u8,
+        thicknesses_len: usize,
+        wedge: i32,
+        out: *mut u8,
+        out_len: usize,
+        place: *mut usize,
+    ) -> u32;
+
+    fn film_form(
+        rows: u32,
+        columns: u32,
+        ceiling: u32,
+        weights: *const u16,
+        weights_len: usize,
+        thicknesses: *const u8,
+        thicknesses_len: usize,
+        wedge: i32,
+        diagonals: *mut u32,
+        diagonals_len: usize,
+        rights: *mut u32,
+        rights_len: usize,
+        ups: *mut u32,
+        ups_len: usize,
+        sources: *mut i64,
+        sources_len: usize,
+        place: *mut usize,
+    ) -> u32;
+
+    fn film_relax(
+        rows: u32,
+        columns: u32,
+        ceiling: u32,
+        weights: *const u16,
+        weights_len: usize,
+        diagonals: *const u32,
+        diagonals_len: usize,
+        rights: *const u32,
+        rights_len: usize,
+        ups: *const u32,
+        ups_len: usize,
+        sources: *const i64,
+        sources_len: usize,
+        field: *mut u32,
+        field_len: usize,
+        at: usize,
+        result: *mut [u32; 2],
+        place: *mut usize,
+    ) -> u32;
+
+    fn film_slack(
+        rows: u32,
+        columns: u32,
+        ceiling: u32,
+        weights: *const u16,
+        weights_len: usize,
+        diagonals: *const u32,
+        diagonals_len: usize,
+        rights: *const u32,
+        rights_len: usize,
+        ups: *const u32,
+        ups_len: usize,
+        sources: *const i64,
+        sources_len: usize,
+        field: *const u32,
+        field_len: usize,
+        at: usize,
+        slack: *mut i64,
+        place: *mut usize,
+    ) -> u32;
+
+    fn film_margin(
+        rows: u32,
+        columns: u32,
+        ceiling: u32,
+        weights: *const u16,
+        weights_len: usize,
+        diagonals: *const u32,
+        diagonals_len: usize,
+        rights: *const u32,
+        rights_len: usize,
+        ups: *const u32,
+        ups_len: usize,
+        sources: *const i64,
+        sources_len: usize,
+        margin: *mut u32,
+        place: *mut usize,
+    ) -> u32;
+
+    fn film_propose(
+        rows: u32,
+        columns: u32,
+        ceiling: u32,
+        weights: *const u16,
+        weights_len: usize,
+        diagonals: *const u32,
+        diagonals_len: usize,
+        rights: *const u32,
+        rights_len: usize,
+        ups: *const u32,
+        ups_len: usize,
+        sources: *const i64,
+        sources_len: usize,
+        field: *mut u32,
+        field_len: usize,
+        line: u32,
+        proposal: *const u32,
+        proposal_len: usize,
+        result: *mut [u32; 2],
+        place: *mut usize,
+    ) -> u32;
+
+    fn film_estimate(
+        rows: u32,
+        columns: u32,
+        ceiling: u32,
+        weights: *const u16,
+        weights_len: usize,
+        diagonals: *const u32,
+        diagonals_len: usize,
+        rights: *const u32,
+        rights_len: usize,
+        ups: *const u32,
+        ups_len: usize,
+        sources: *const i64,
+        sources_len: usize,
+        field: *const u32,
+        field_len: usize,
+        line: u32,
+        proposal: *mut u32,
+        proposal_len: usize,
+        place: *mut usize,
+    ) -> u32;
+
+    fn film_run(
+        rows: u32,
+        columns: u32,
+        ceiling: u32,
+        weights: *const u16,
+        weights_len: usize,
+        diagonals: *const u32,
+        diagonals_len: usize,
+        rights: *const u32,
+        rights_len: usize,
+        ups: *const u32,
+        ups_len: usize,
+        sources: *const i64,
+        sources_len: usize,
+        field: *mut u32,
+        field_len: usize,
+        budget: u32,
+        order: u32,
+        proposals: bool,
+        result: *mut [u32; 4],
+        cell: *mut usize,
+        place: *mut usize,
+    ) -> u32;
+
+    fn film_report(
+        file: *const u8,
+        file_len: usize,
+        out: *mut u8,
+        out_len: usize,
+        length: *mut usize,
+        place: *mut usize,
+    ) -> u32;
+}

@@ -1,0 +1,215 @@
+//! Damage to film files, and to what callers give: one fault at least is likely, several are not
+//! rare, and the one that is tested first must be named.
+
+use crate::films::{HIGHEST_CEILING, HIGHEST_WEDGE};
+use crate::numbers::{Gauge, Problem};
+use crate::problems::{HIGHEST_DIAGONAL, HIGHEST_LINK, HIGHEST_SOURCE};
+use crate::random::Random;
+use film_oracle::film::{thickness_count, write, Film};
+
+/// A file from an accepted film's, with faults of every class of byte.
+pub fn file(random: &mut Random, film: &Film) -> Vec<u8> {
+    if random.chance(2) {
+        return stray_bytes(random);
+    }
+    let mut film = film.clone();
+    let mut times = 1 + random.below(2);
+    if random.chance(50) {
+        damage_values(random, &mut film);
+        times -= 1;
+    }
+    let mut bytes = write(&film);
+    for _ in 0..times {
+        damage_bytes(random, &film, &mut bytes);
+    }
+    bytes
+}
+
+fn stray_bytes(random: &mut Random) -> Vec<u8> {
+    let length = random.spread(4_000);
+    (0..length).map(|_| random.byte()).collect()
+}
+
+/// Values out of range, in a file that is otherwise a good one.
+fn damage_values(random: &mut Random, film: &mut Film) {
+    let mut gauge = Gauge::from(&*film);
+    for _ in 0..1 + random.below(2) {
+        damage_value(random, &mut gauge);
+    }
+    film.ceiling = gauge.ceiling;
+    film.weights = gauge.weights;
+    film.thickness = gauge.thicknesses;
+    film.wedge = gauge.wedge;
+}
+
+/// Where a file's headers begin.
+fn headers(film: &Film) -> [usize; 5] {
+    let weights = 15 + 2 * film.cells();
+    let wedge = weights + 3 + thickness_count(film.rows, film.columns);
+    [0, 5, 12, weights, wedge]
+}
+
+fn damage_bytes(random: &mut Random, film: &Film, bytes: &mut Vec<u8>) {
+    let header = random.pick(&headers(film));
+    let edge = (header as i64 + random.within(-2, 5)).max(0) as usize;
+    let anywhere = random.below(bytes.len() + 1);
+    let at = if random.chance(50) { edge } else { anywhere };
+    match random.below(9) {
+        0 | 1 => bytes.truncate(at),
+        2 => bytes.extend((0..1 + random.below(3)).map(|_| random.byte())),
+        3 => set(bytes, header, random.within(0, 12) as u8),
+        4 => set(bytes, header + 1 + random.below(2), random.byte()),
+        5 => {
+            let side = random.pick(&[0, 1, 2, 32, 33, 34, 255]);
+            set(bytes, 3 + random.below(2), side);
+        }
+        6 if at < bytes.len() => drop(bytes.remove(at)),
+        7 if at < bytes.len() => bytes.insert(at, random.byte()),
+        _ => set(bytes, at, random.byte()),
+    }
+}
+
+fn set(bytes: &mut [u8], at: usize, byte: u8) {
+    if let Some(place) = bytes.get_mut(at) {
+        *place = byte;
+    }
+}
+
+/// A film's numbers with faults.
+pub fn gauge(random: &mut Random, film: &Film) -> Gauge {
+    let mut gauge = Gauge::from(film);
+    for _ in 0..1 + random.below(3) {
+        match random.below(10) {
+            0 => gauge.rows = side(random, gauge.rows),
+            1 => gauge.columns = side(random, gauge.columns),
+            2 => std::mem::swap(&mut gauge.rows, &mut gauge.columns),
+            3 => resize(random, &mut gauge.weights, 1),
+            4 => resize(random, &mut gauge.thicknesses, 1),
+            _ => damage_value(random, &mut gauge),
+        }
+    }
+    gauge
+}
+
+/// Damages ceiling, weights, thicknesses or wedge.
+fn damage_value(random: &mut Random, gauge: &mut Gauge) {
+    match random.below(6) {
+        0 => gauge.ceiling = bad_ceiling(random),
+        1 => put(random, &mut gauge.weights, |_, _| 0),
+        2 => put(random, &mut gauge.thicknesses, |random, _| {
+            random.pick(&[0, 129, 130, 255])
+        }),
+        3 => gauge.wedge = bad_wedge(random),
+        _ => put(random, &mut gauge.weights, other_weight),
+    }
+}
+
+fn bad_ceiling(random: &mut Random) -> u32 {
+    let any = random.any_u32();
+    random.pick(&[0, HIGHEST_CEILING + 1, u32::MAX, any])
+}
+
+fn bad_wedge(random: &mut Random) -> i32 {
+    let beyond = HIGHEST_WEDGE as i32 + 1;
+    let any = random.any_u32() as i32;
+    random.pick(&[beyond, -beyond, i32::MAX, i32::MIN, any])
+}
+
+/// A weight that may no longer hold its cell, or its neighbours'.
+fn other_weight(random: &mut Random, weight: u16) -> u16 {
+    let any = random.spread(65_535) as u16;
+    let less = weight.saturating_sub(1);
+    random.pick(&[less, less, weight.saturating_add(1), any, u16::MAX])
+}
+
+/// A side outside 1..32, or another one inside.
+fn side(random: &mut Random, side: u32) -> u32 {
+    let any = random.any_u32();
+    let beside = [side.saturating_add(1), side.saturating_sub(1)];
+    let far = [0, 33, 34, 64, 256, 65_536, u32::MAX, any];
+    if random.chance(20) {
+        random.pick(&beside)
+    } else {
+        random.pick(&far)
+    }
+}
+
+/// A length that is wrong.
+pub fn length(random: &mut Random, length: usize) -> usize {
+    let any = random.below(40);
+    let list = [0, length + 1, length.saturating_sub(1), 2 * length, any];
+    random.pick(&list)
+}
+
+fn resize<T: Copy>(random: &mut Random, list: &mut Vec<T>, filler: T) {
+    let length = length(random, list.len());
+    list.resize(length, filler);
+}
+
+/// Replaces one number of a list, if there is any.
+fn put<T: Copy>(random: &mut Random, list: &mut [T], by: impl Fn(&mut Random, T) -> T) {
+    if !list.is_empty() {
+        let at = random.below(list.len());
+        list[at] = by(random, list[at]);
+    }
+}
+
+/// A film as coefficients, with faults.
+pub fn problem(random: &mut Random, problem: &Problem) -> Problem {
+    let mut problem = problem.clone();
+    for _ in 0..1 + random.below(3) {
+        damage_problem(random, &mut problem);
+    }
+    problem
+}
+
+fn damage_problem(random: &mut Random, problem: &mut Problem) {
+    match random.below(18) {
+        0 => problem.rows = side(random, problem.rows),
+        1 => problem.columns = side(random, problem.columns),
+        2 => std::mem::swap(&mut problem.rows, &mut problem.columns),
+        3 => problem.ceiling = bad_ceiling(random),
+        4 => resize(random, &mut problem.weights, 1),
+        5 => resize(random, &mut problem.diagonals, 1),
+        6 => resize(random, &mut problem.rights, 0),
+        7 => resize(random, &mut problem.ups, 0),
+        8 => resize(random, &mut problem.sources, 0),
+        9 => put(random, &mut problem.weights, |_, _| 0),
+        10 => put(random, &mut problem.weights, other_weight),
+        11 => put(random, &mut problem.diagonals, other_diagonal),
+        12 | 13 => put(random, &mut problem.rights, other_link),
+        14 | 15 => put(random, &mut problem.ups, other_link),
+        16 => end_link(random, problem),
+        _ => put(random, &mut problem.sources, other_source),
+    }
+}
+
+fn other_diagonal(random: &mut Random, diagonal: u32) -> u32 {
+    let high = HIGHEST_DIAGONAL as u32;
+    let less = diagonal.saturating_sub(1);
+    random.pick(&[0, 1, less, diagonal / 2, high, high + 1, u32::MAX])
+}
+
+fn other_link(random: &mut Random, link: u32) -> u32 {
+    let high = HIGHEST_LINK as u32;
+    random.pick(&[0, 1, link.saturating_add(1), high, high + 1, u32::MAX])
+}
+
+fn other_source(random: &mut Random, source: i64) -> i64 {
+    let high = HIGHEST_SOURCE;
+    let far = random.pick(&[high + 1, i64::MAX, i64::MAX - 1]);
+    random.pick(&[far, -far, i64::MIN, high, -high, source])
+}
+
+/// A link that leaves the grid.
+fn end_link(random: &mut Random, problem: &mut Problem) {
+    let link = random.pick(&[1, HIGHEST_LINK as u32]);
+    let links = if random.chance(50) {
+        &mut problem.rights
+    } else {
+        &mut problem.ups
+    };
+    if let Some(last) = links.last_mut() {
+        *last = link;
+    }
+}

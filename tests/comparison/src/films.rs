@@ -1,0 +1,177 @@
+//! Random films that are accepted.
+
+use crate::random::Random;
+use film_oracle::coefficients::form;
+use film_oracle::film::{thickness_count, Film};
+use film_oracle::relax::first_not_dominant;
+use film_oracle::run::{run, Answer, Ordering};
+
+pub const HIGHEST_CEILING: u32 = 16_777_216;
+pub const HIGHEST_WEDGE: i64 = 1_000_000_000;
+
+/// Rows and columns: mostly few, so that many films are tried.
+pub fn shape(random: &mut Random) -> (usize, usize) {
+    let mut side = |most: i64| random.within(1, most) as usize;
+    let small = (side(6), side(6));
+    let (narrow, long, middle, large) = (
+        side(3),
+        side(32),
+        (side(12), side(12)),
+        (side(32), side(32)),
+    );
+    match random.below(1_000) {
+        0..=919 => small,
+        920..=944 => (narrow, long),
+        945..=969 => (long, narrow),
+        970..=995 => middle,
+        996..=998 => large,
+        _ => (32, 32),
+    }
+}
+
+/// A random film, accepted.
+pub fn accepted(random: &mut Random) -> Film {
+    let (rows, columns) = shape(random);
+    for _ in 0..4 {
+        let thickness = thicknesses(random, rows, columns);
+        if let Some(weights) = held_weights(rows, columns, &thickness) {
+            return finished(random, (rows, columns), thickness, weights);
+        }
+    }
+    let thickness = vec![random.within(1, 128) as u8; thickness_count(rows, columns)];
+    let weights = held_weights(rows, columns, &thickness).expect("an even film is held quickly");
+    finished(random, (rows, columns), thickness, weights)
+}
+
+/// Gives a film its wedge, its ceiling and other weights.
+fn finished(
+    random: &mut Random,
+    (rows, columns): (usize, usize),
+    thickness: Vec<u8>,
+    weights: Vec<u16>,
+) -> Film {
+    let mut film = Film {
+        rows,
+        columns,
+        ceiling: HIGHEST_CEILING,
+        weights,
+        thickness,
+        wedge: 0,
+    };
+    film.wedge = wedge(random, &film);
+    film.ceiling = ceiling(random, &film);
+    vary_weights(random, &mut film);
+    film
+}
+
+/// Thicknesses by one of several laws.
+fn thicknesses(random: &mut Random, rows: usize, columns: usize) -> Vec<u8> {
+    let low = random.within(1, 128);
+    let high = random.within(low, 128);
+    let thin = random.within(1, 9);
+    let (base, slope) = (random.within(1, 128), random.within(-9, 9));
+    let law = random.below(5);
+    let mut list = Vec::new();
+    for (r, c) in (0..rows + 2).flat_map(|r| (0..columns + 2).map(move |c| (r, c))) {
+        let pad = (2..rows).contains(&r) && (2..columns).contains(&c);
+        let thickness = match law {
+            0 => random.within(low, high),
+            1 => random.within(1, thin),
+            2 => base + slope * c as i64 + random.within(0, 1),
+            3 if pad => high,
+            3 => random.within(1, 2),
+            _ => random.pick(&[1, 128, low]),
+        };
+        list.push(thickness.clamp(1, 128) as u8);
+    }
+    list
+}
+
+/// The least weights that hold a film, where they are found soon.
+fn held_weights(rows: usize, columns: usize, thickness: &[u8]) -> Option<Vec<u16>> {
+    let mut formed = form(&Film {
+        rows,
+        columns,
+        ceiling: 1,
+        weights: Vec::new(),
+        thickness: thickness.to_vec(),
+        wedge: 0,
+    });
+    formed.sources = vec![-1; rows * columns];
+    let mut field = vec![0; rows * columns];
+    let outcome = run(
+        formed.system(),
+        u16::MAX.into(),
+        &[],
+        &mut field,
+        20_000 + 300 * (rows * columns) as u32,
+        Ordering::Forward,
+        false,
+    );
+    (outcome.answer == Answer::Done).then(|| field.iter().map(|&w| w as u16).collect())
+}
+
+/// Any wedge, or one that gives pressures of any size: they are some source by some diagonal.
+fn wedge(random: &mut Random, film: &Film) -> i32 {
+    let diagonals = form(film).diagonals;
+    let diagonal = diagonals[random.below(diagonals.len())] as i64;
+    let wedge = match random.below(10) {
+        0 => 0,
+        1 => random.pick(&[-HIGHEST_WEDGE, HIGHEST_WEDGE]),
+        2 | 3 => random.signed(HIGHEST_WEDGE),
+        _ => random.signed(1 << 20) * diagonal,
+    };
+    wedge.clamp(-HIGHEST_WEDGE, HIGHEST_WEDGE) as i32
+}
+
+/// Any ceiling, every length of number as likely as another, or the highest.
+pub fn any_ceiling(random: &mut Random) -> u32 {
+    let any = 1 + random.spread(i64::from(HIGHEST_CEILING) - 1) as u32;
+    random.pick(&[any, HIGHEST_CEILING])
+}
+
+/// Any ceiling, or one near the peak of the film's least field.
+fn ceiling(random: &mut Random, film: &Film) -> u32 {
+    if random.chance(40) {
+        return any_ceiling(random);
+    }
+    let (_, field) = tried(film, soon(film));
+    let peak = field.into_iter().max().expect("a film has cells");
+    let near = [peak.saturating_sub(1), peak, peak + 1, 2 * peak];
+    random.pick(&near).clamp(1, HIGHEST_CEILING)
+}
+
+/// A budget that most films need not use up.
+pub fn soon(film: &Film) -> u32 {
+    2_000 + 200 * film.cells() as u32
+}
+
+/// A run from zero, forward and without proposals, as the report's.
+pub fn tried(film: &Film, budget: u32) -> (Answer, Vec<u32>) {
+    let mut field = vec![0; film.cells()];
+    let outcome = run(
+        form(film).system(),
+        film.ceiling,
+        &film.weights,
+        &mut field,
+        budget,
+        Ordering::Forward,
+        false,
+    );
+    (outcome.answer, field)
+}
+
+/// Other weights that hold the film too.
+fn vary_weights(random: &mut Random, film: &mut Film) {
+    let largest = *film.weights.iter().max().expect("a film has cells");
+    let factor = 1 + random.spread(i64::from(u16::MAX / largest) - 1) as u16;
+    let mut weights: Vec<u16> = film.weights.iter().map(|&w| w * factor).collect();
+    if random.chance(50) {
+        for weight in &mut weights {
+            *weight = weight.saturating_add(random.spread((factor / 2).into()) as u16);
+        }
+    }
+    if random.chance(60) && first_not_dominant(form(film).system(), &weights).is_none() {
+        film.weights = weights;
+    }
+}
