@@ -1,6 +1,5 @@
 -- A refusal's number is small.
-use mathlib.Core.Path.{_≡_}
-use Prim.Native.Nat.{ℕ, _≤_}
+use Prim.Native.Nat.{_≤_}
 use native.Mathlib.Omega.{arith}
 use Rattle.model.specs.Refusals.{numberOf}
 use Rattle.model.specs.declared.Fault.{Fault}

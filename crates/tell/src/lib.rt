@@ -2,7 +2,6 @@
 //
 // Proved: the returned number is 0 or the refusal's, and each lent number and array holds what specs/ says of the answer. A refusal
 // writes its place and nothing else; an answer leaves the place as it was.
-ghost use mathlib.Core.Path.{_≡_};
 ghost use Rattle.model.specs.Refusals.{fail, numberOf};
 ghost use Rattle.model.specs.Relaxation.{relaxAnswerOf, slackAnswerOf};
 ghost use Rattle.model.specs.Margin.{marginAnswerOf};
