@@ -5,6 +5,7 @@ use film_oracle::coefficients::form;
 use film_oracle::film::{thickness_count, Film};
 use film_oracle::relax::first_not_dominant;
 use film_oracle::run::{run, Answer, Ordering};
+use film_oracle::weights::least_weights;
 
 pub const HIGHEST_CEILING: u32 = 16_777_216;
 pub const HIGHEST_WEDGE: i64 = 1_000_000_000;
@@ -41,6 +42,29 @@ pub fn accepted(random: &mut Random) -> Film {
     let thickness = vec![random.within(1, 128) as u8; thickness_count(rows, columns)];
     let weights = held_weights(rows, columns, &thickness).expect("an even film is held quickly");
     finished(random, (rows, columns), thickness, weights)
+}
+
+/// A film made to be slow: a thick pad inside two thin courses, hardly anything flows out, and
+/// pressure climbs for millions of relaxations. None where no weights hold it.
+pub fn slow(random: &mut Random) -> Option<Film> {
+    let (rows, columns, thick) = random.pick(&[(3, 4, 80), (4, 3, 80), (4, 5, 65), (5, 5, 45)]);
+    let (pad, left) = (random.within(thick - 5, thick + 5) as u8, 2);
+    let mut thickness = vec![1; thickness_count(rows, columns)];
+    for r in 0..rows + 2 {
+        thickness[r * (columns + 2)] = left;
+        if (2..rows).contains(&r) {
+            let row = &mut thickness[r * (columns + 2)..(r + 1) * (columns + 2)];
+            row[2..columns].fill(pad);
+        }
+    }
+    Some(Film {
+        rows,
+        columns,
+        ceiling: HIGHEST_CEILING,
+        weights: least_weights(rows, columns, &thickness)?,
+        thickness,
+        wedge: random.within(10_000_000, HIGHEST_WEDGE) as i32,
+    })
 }
 
 /// Gives a film its wedge, its ceiling and other weights.

@@ -14,6 +14,9 @@ use film_oracle::run::Answer;
 
 /// Makes a film, accepted or damaged or of coefficients alone, and its calls.
 pub fn compare(random: &mut Random, tally: &mut Tally) -> Compared {
+    if random.below(1_500) == 0 {
+        return slow_film(random, tally);
+    }
     match random.below(100) {
         0..=49 => accepted_film(random, tally),
         50..=69 => damaged_film(random, tally),
@@ -33,11 +36,21 @@ fn accepted_film(random: &mut Random, tally: &mut Tally) -> Compared {
     }
     numeric(random, &mut trial, Problem::from(&film), None)?;
     binding::compare(random, &mut trial, &film)?;
-    // Slow films are few, but they alone end by the report's budget.
     if quick || random.chance(25) {
         trial.step(Step::Report(File(file), REPORT_ROOM + random.below(20)))?;
     }
     Ok(())
+}
+
+/// A film whose report uses its budget up, or nearly so.
+fn slow_film(random: &mut Random, tally: &mut Tally) -> Compared {
+    let Some(film) = films::slow(random) else {
+        return Ok(());
+    };
+    let file = write(&film);
+    let mut trial = Trial::new(file.clone(), tally);
+    read(&mut trial, file.clone())?;
+    trial.step(Step::Report(File(file), REPORT_ROOM))
 }
 
 fn damaged_film(random: &mut Random, tally: &mut Tally) -> Compared {
