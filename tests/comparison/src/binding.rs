@@ -34,6 +34,15 @@ pub fn compare_file(trial: &mut Trial, file: &[u8]) -> Compared {
     trial.ended(differences)
 }
 
+/// The report of a file, accepted or not.
+pub fn compare_report(trial: &mut Trial, file: &[u8]) -> Compared {
+    let mut differences = Differences::default();
+    let wanted = film_oracle::report::report(file);
+    differences.same("report()", Ok(wanted), film::report(file));
+    trial.tally.add("package", "report");
+    trial.ended(differences)
+}
+
 type Numbers = ([u32; 3], Vec<u16>, Vec<u8>, i32);
 
 fn numbers(film: &Film) -> Numbers {

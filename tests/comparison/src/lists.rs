@@ -37,6 +37,7 @@ fn accepted_film(random: &mut Random, tally: &mut Tally) -> Compared {
     numeric(random, &mut trial, Problem::from(&film), None)?;
     binding::compare(random, &mut trial, &film)?;
     if quick || random.chance(25) {
+        binding::compare_report(&mut trial, &file)?;
         trial.step(Step::Report(File(file), REPORT_ROOM + random.below(20)))?;
     }
     Ok(())
@@ -63,6 +64,7 @@ fn damaged_film(random: &mut Random, tally: &mut Tally) -> Compared {
         read(&mut trial, file.clone())?;
         binding::compare_file(&mut trial, &file)?;
         if quick_report(&file) {
+            binding::compare_report(&mut trial, &file)?;
             trial.step(Step::Report(File(file), REPORT_ROOM))?;
         }
     }
