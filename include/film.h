@@ -6,20 +6,20 @@
  * Every call returns 0 if it answered, and then writes what its comment says and leaves *place as it was. Otherwise it returns the number of
  * a refusal, 1 to 14, writes the refusal's place to *place, and changes nothing else: no result, no field, no slice.
  *
- *    1 cut short           a file's header or body runs past its end; place: the file's length
- *    2 stray               a tag is not the next one, or bytes follow the last field; place: its offset
- *    3 misfit              a body's length is wrong for its tag; place: the field's offset
- *    4 shape               rows or columns are not 1 to 32; place: 3 or 4 for a film's own numbers, 0 for coefficients
- *    5 ceiling             the ceiling is not 1 to 16,777,216; place: 8 for a film's own numbers, 0 for coefficients
- *    6 no weight           a weight is 0; place: its offset in the film file, the cell for coefficients
- *    7 thickness           a thickness is not 1 to 128; place: its offset in the film file
- *    8 wedge               the wedge is beyond 1,000,000,000 either way; place: its offset in the film file
- *    9 unheld              a weighted row sum is below 1; place: the cell
- *   10 buffer              a slice has the wrong length; place: 0
- *   11 order               an ordering number is not 0, 1 or 2; place: 0
- *   12 start               a pressure of the field is above the ceiling; place: the cell
- *   13 line                a line or cell is outside the grid; place: 0
- *   14 coefficient         a coefficient is outside its limits; place: the cell
+ *    1 truncated           a file's header or body runs past its end; place: the file's length
+ *    2 unexpected          a tag is not the next one, or bytes follow the last field; place: its offset
+ *    3 wrong length        a body's length is wrong for its tag; place: the field's offset
+ *    4 bad shape           rows or columns are not 1 to 32; place: 3 or 4 for a film's own numbers, 0 for coefficients
+ *    5 bad ceiling         the ceiling is not 1 to 16,777,216; place: 8 for a film's own numbers, 0 for coefficients
+ *    6 zero weight         a weight is 0; place: its offset in the film file, the cell for coefficients
+ *    7 bad thickness       a thickness is not 1 to 128; place: its offset in the film file
+ *    8 bad wedge           the wedge is beyond 1,000,000,000 either way; place: its offset in the film file
+ *    9 not dominant        a weighted row sum is below 1; place: the cell
+ *   10 wrong buffer        a slice has the wrong length; place: 0
+ *   11 bad order           an ordering number is not 0, 1 or 2; place: 0
+ *   12 start above ceiling a pressure of the field is above the ceiling; place: the cell
+ *   13 out of grid         a line or cell is outside the grid; place: 0
+ *   14 bad coefficient     a coefficient is outside its limits; place: the cell
  *
  * Where several would do, the call names the first that it tests for; each call lists its tests in their order.
  *
