@@ -1,12 +1,15 @@
 -- The relaxations of a run: the sweep by index over the table is the film's own, and its end is the run's answer.
 use mathlib.Core.Path.{_≡_, ap₂, _∙_}
 use mathlib.Core.List.{List, []}
-use Prim.Native.Nat.{ℕ, _*_, _<_}
+use Prim.Native.Nat.{ℕ, _*_, _^_, _<_}
 use native.Mathlib.Nat.{mul-pos}
+use native.Mathlib.Omega.{arith}
 use lib.IntN.{ℤ}
 use lib.ListN.{length}
+use Rattle.monotone.specs.Rule.{Rule}
 use Rattle.monotone.specs.Linear.{ruleOf}
 use Rattle.monotone.specs.Sweep as theory
+use Rattle.monotone.proofs.Sweep.{sweep-counts}
 use Rattle.model.specs.Lists.{tabulate}
 use Rattle.model.specs.Film.{Film, filmOf, sizeOf, systemOf, beside, across, neighbours}
 use Rattle.model.specs.Accepted.{Limited}
@@ -15,7 +18,7 @@ use Rattle.model.specs.Run.{RunAnswer, countsOf, endOf, ended, orderOf, orderin
 use Rattle.model.specs.declared.Counts.{Counts}
 use Rattle.model.specs.declared.Head.{Head}
 use Rattle.sweep.specs.Rule.{ruleBy}
-use Rattle.sweep.specs.Sweep.{answerOf, counterOf, Listed, Ends}
+use Rattle.sweep.specs.Sweep.{answerOf, counterOf, orderIn, Listed, Ends}
 use Rattle.sweep.specs.declared.Swept.{Swept}
 use Rattle.sweep.proofs.Film.{table-listed, film-sweep}
 use Rattle.run.specs.Counts.{countsIn}
@@ -48,3 +51,10 @@ module _ (h : Head) (diagonals rights ups : List ℕ) (sources : List ℤ) (w : 
           answer-is = f ∙ ap₂ (λ (x : theory.Answer) (c : Counts). endOf x c) (rw F at (E .answer)) counts;
           lent-is = rw F at (E .field);
         }
+
+-- a sweep's counts are within its budget
+pub counts-low : {F : Rule} {table : List ℕ} {budget : ℕ} {p : List ℕ} {s : Swept} {exit : List ℕ} → Ends F table budget p s exit → budget < 2 ^ 32
+    → (counterOf s .visits < 2 ^ 32) × (counterOf s .raises < 2 ^ 32)
+counts-low {F} {table} {budget} {p} E h =
+    let C = sweep-counts F (orderIn table) budget p in
+    (omega (arith, E .visits, C .few), omega (arith, E .visits, E .raises, C .few, C .some))

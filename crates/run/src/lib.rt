@@ -5,7 +5,7 @@
 // Proved: the whole answer with its counts, and the field, are those of crate `model` (runCall).
 ghost use mathlib.Core.Path.{_≡_};
 ghost use mathlib.Core.List.{List, []};
-ghost use Prim.Native.Nat.{ℕ, _*_, _≤_};
+ghost use Prim.Native.Nat.{ℕ, _*_, _^_, _≤_, _<_};
 ghost use lib.ListN.{length};
 ghost use Rattle.monotone.specs.Rule.{Bounded};
 ghost use Rattle.monotone.specs.Linear.{ruleOf};
@@ -27,17 +27,19 @@ use sweep::Counter;
 use sweep::Swept;
 
 fn counts(counter: Counter, accepted: u32) -> Counts
+    requires { ⌜ (counter .visits < 2 ^ 32) × (counter .raises < 2 ^ 32) ⌝ }
     ensures { λ r. ⌜ r ≡ countsIn counter accepted ⌝ }
 {
     Counts {
-        visits: counter.visits,
-        raises: counter.raises,
+        visits: counter.visits as u32,
+        raises: counter.raises as u32,
         accepted: accepted,
     }
 }
 
 // How a sweep ended, as the run answers it.
 fn answered(swept: Swept, accepted: u32) -> Ran
+    requires { ⌜ (counterOf swept .visits < 2 ^ 32) × (counterOf swept .raises < 2 ^ 32) ⌝ }
     ensures { λ r. ⌜ runAnswerOf r ≡ endOf (answerOf swept) (countsIn (counterOf swept) accepted) ⌝ }
 {
     match swept {
@@ -76,7 +78,7 @@ fn relaxations(
         head.ceiling,
         &table[..n],
         field,
-        budget,
+        budget as u64,
     );
     answered(swept, accepted)
 }

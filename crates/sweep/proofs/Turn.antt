@@ -70,7 +70,7 @@ module _ (table : List ℕ) (ceiling : ℕ) (required : List ℕ → ℕ → ℕ
     pub running-place : place < length table
     running-place = R .going .inside
 
-    pub running-room : budget < 4294967296 → c .visits < budget → Room c
+    pub running-room : budget < 18446744073709551616 → c .visits < budget → Room c
     running-room b h = record { visits-low = omega arith; raises-low = R .going .some; quiet-low = R .going .calm }
 
     pub running-stopped : budget ≤ c .visits → Ends rule table budget p₀ (ends.Stopped c) p

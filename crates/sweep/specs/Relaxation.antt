@@ -26,7 +26,7 @@ countAfter exceed c = record { visits = c .visits + 1; raises = c .raises; quiet
 
 -- one relaxation more does not wrap a counter
 pub record Room (c : Counter) : Type 0 where
-  pub visits-low : c .visits < 4294967295
+  pub visits-low : c .visits < 18446744073709551615
   pub raises-low : c .raises ≤ c .visits
   pub quiet-low : c .quiet ≤ c .visits
 

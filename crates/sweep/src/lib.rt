@@ -11,11 +11,12 @@ ghost use Rattle.sweep.specs.Rule.{ruleBy, requiredBy};
 ghost use Rattle.sweep.specs.Relaxation.{Room, countAfter, kindOf, Visited, Stepped};
 ghost use Rattle.sweep.specs.Sweep.{Listed, judgeBy, Advanced, Ends};
 
-// What a sweep has counted: relaxations, raises, and quiet relaxations since the last raise.
+// What a sweep has counted: relaxations, raises, and quiet relaxations since the last raise. Each has a machine word of its own, so that
+// the loop keeps it in a register.
 pub struct Counter {
-    pub visits: u32,
-    pub raises: u32,
-    pub quiet: u32,
+    pub visits: u64,
+    pub raises: u64,
+    pub quiet: usize,
 }
 
 // What one relaxation did.
@@ -153,7 +154,7 @@ fn judged(n: usize, at: usize, after: After) -> Step
     let counter = after.counter;
     match visit {
         Visit::Quiet => {
-            if counter.quiet as usize == n {
+            if counter.quiet == n {
                 Step::Done(counter)
             } else {
                 Step::On(counter)
@@ -206,7 +207,7 @@ pub fn sweep(
     ceiling: u32,
     table: &[u16],
     field: &mut [u32],
-    budget: u32,
+    budget: u64,
 ) -> Swept
     requires { ⌜ Loaded columns (now diagonals) (now rights) (now ups) (now sources) (now field) ⌝ }
     requires { ⌜ Listed (now table) (length (now field)) × (0 < length (now field)) ⌝ }

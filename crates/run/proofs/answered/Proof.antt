@@ -10,19 +10,19 @@ enum-known-swept : tie.Need-enum-known-swept
 enum-known-swept c = search needs
 
 counts-requires : tie.Need-counts-requires
-counts-requires c κs = search needs
+counts-requires c κs = rw (c .before .swept .given .1) at (c .before .before .before .pre)
 
 enum-known-swept-2 : tie.Need-enum-known-swept-2
 enum-known-swept-2 c = search needs
 
 counts-requires-2 : tie.Need-counts-requires-2
-counts-requires-2 c κs = search needs
+counts-requires-2 c κs = rw (c .before .swept2 .given .1) at (c .before .before .before .pre)
 
 enum-known-swept-3 : tie.Need-enum-known-swept-3
 enum-known-swept-3 c = search needs
 
 counts-requires-3 : tie.Need-counts-requires-3
-counts-requires-3 c κs = search needs
+counts-requires-3 c κs = rw (c .before .swept3 .given .1) at (c .before .before .before .pre)
 
 returns : tie.Need-returns
 returns c = rw (c .before .before .swept .given .1) (ap done (c .counts .ensures))

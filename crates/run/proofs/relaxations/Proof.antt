@@ -9,7 +9,7 @@ use lib.Seq.{length-take-le}
 use Rattle.model.specs.Lists.{tabulate}
 use Rattle.model.specs.Run.{orderOf}
 use Rattle.grid.proofs.Limited.{size-low, limited-loaded}
-use Rattle.run.proofs.Film.{cells-listed, cells-some, run-gives}
+use Rattle.run.proofs.Film.{cells-listed, cells-some, run-gives, counts-low}
 use Rattle.run.proofs.relaxations.Statement.{statement}
 use Rattle.run.proofs.relaxations.Tie as tie
 
@@ -54,7 +54,10 @@ sweep-requires c κs =
     (limited-loaded (s .pre .0 .1) (s .pre .1), (cells-listed (s .args .head) _ _ _ _ (s .pre .0 .0) (s .pre .0 .1) (s .args .order) _ (now (s .args .field)) e (s .pre .1), cells-some (s .args .head) _ _ _ _ (s .pre .0 .0) (s .pre .0 .1) (s .args .order) _ (now (s .args .field)) e (s .pre .1)))
 
 answered-requires : tie.Need-answered-requires
-answered-requires c κs = search needs
+answered-requires c κs =
+    let x = c .before .before in
+    let s = x .before .before .before .before .before .before .before .before .before .before .before .before in
+    counts-low (x .sweep .ensures) (s .fits .budget .fits)
 
 same-length : tie.Need-same-length
 same-length c = search needs

@@ -20,9 +20,6 @@ round-part c n e = rw (ne-eqb _ _ e)
 enum-told : tie.Need-enum-told
 enum-told c = search needs
 
-cast-if1 : tie.Need-cast-if1
-cast-if1 c = search needs
-
 enum-told-2 : tie.Need-enum-told-2
 enum-told-2 c = search needs
 
@@ -44,4 +41,4 @@ returns-4 c = rw (c .enum-told3 .given .1)
 pub judged-spec : {M : Type 1} → statement M
 judged-spec =
     tie.close
-    (tie.spec enum-told cast-if1 enum-told-2 enum-told-3 returns returns-2 returns-3 returns-4)
+    (tie.spec enum-told enum-told-2 enum-told-3 returns returns-2 returns-3 returns-4)
