@@ -2,11 +2,14 @@
 use mathlib.Core.Path.{_≡_, refl, sym, _∙_}
 use mathlib.Core.Bool.{Bool, true, false}
 use Prim.Native.Nat.{ℕ, _+_, _≤_, _<_}
+use native.Mathlib.Nat.{le-antisymm}
+use native.Mathlib.Decide.{decLt}
 use native.Mathlib.Omega.{arith}
-use borrow.Author.Tests.{lt-ltb, le-ltb}
+use borrow.Author.Tests.{lt-ltb, le-ltb, ltb-false}
 use Rattle.model.specs.Lists.{firstOf}
 use Rattle.model.specs.Refusals.{pass, fail, failFirst}
-use Rattle.model.proofs.Lists.{first-none, first-found}
+use Rattle.model.proofs.Lists.{first-none, first-found, first-stays, first-below}
+use Rattle.model.proofs.Checks.{failIf-pass}
 
 -- what a search of n cells knows that has come to cell i
 pub record Searched (bad : ℕ → Bool) (n i : ℕ) : Type 0 where
@@ -32,3 +35,18 @@ search-passes {bad} {n} {i} number place s h =
     let e : i ≡ n = omega arith in
     let z : firstOf bad n ≡ n = rw e at (s .none) in
     rw (z, le-ltb n n (omega arith))
+
+-- A search in parts: where the first k cells have passed, it has come to cell k; and a fault among them is the fault of all.
+module _ (bad : ℕ → Bool) (number : ℕ) (place : ℕ → ℕ) {k n : ℕ} (l : k ≤ n) where
+  pub search-come : failFirst bad k number place ≡ pass → Searched bad n k
+  search-come e =
+      record { within = l; none = le-antisymm (first-below bad k) (ltb-false (firstOf bad k) k (failIf-pass _ number _ e)) }
+
+  pub search-ends : {a b : ℕ} → fail a b ≡ failFirst bad k number place → fail a b ≡ failFirst bad n number place
+  search-ends {a} {b} e =
+      elim (decLt (firstOf bad k) k) [
+        | yes h ↦
+            let s : firstOf bad n ≡ firstOf bad k = first-stays bad k (firstOf bad k) h refl n l in
+            rw (s, lt-ltb (firstOf bad k) n (omega arith)) (rw (lt-ltb (firstOf bad k) k h) at e)
+        | no h ↦ let none : fail a b ≡ pass = rw (le-ltb (firstOf bad k) k (omega arith)) at e in cc
+      ]

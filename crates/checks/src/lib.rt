@@ -2,9 +2,9 @@
 // Internal: other crates of Film call it before they do anything else, so that a refused call changes nothing.
 //
 // Proved: what each test finds, read as the model's check by `checkOf`, equals the check that crate `model` defines, for all values
-// that the types can hold: no function of this module that is public asks anything of its caller. So the first test that fails
-// wins, at its lowest place. Only the tests of values ask that those before them have passed, and of these other crates call that
-// of dominance alone. proofs/Chain has how a call that matches on a test meets its own definition.
+// that the types can hold: no public function asks anything of its caller. So the first test that fails wins, at its lowest place.
+// Only the tests of values ask that those before them have passed, and no other crate calls these. proofs/Chain has how a call that
+// matches on a test meets its own definition.
 ghost use mathlib.Core.Path.{_≡_};
 ghost use mathlib.Core.Bool.{not};
 ghost use Prim.Native.Nat.{_*_};
@@ -24,7 +24,7 @@ use model::Tested;
 mod coefficients;
 
 // Refusal 9, cell by cell and for a film.
-pub mod dominance;
+mod dominance;
 
 // The limits of model/specs/Limits.
 const SIDE_LIMIT: u32 = 32;

@@ -21,9 +21,8 @@ use Rattle.model.specs.FileCalls.{gaugeOf, headOf, gaugeFits, WriteAnswer, writ
 use Rattle.model.proofs.Lists.{tabulate-length}
 use Rattle.model.proofs.Checks.{and-parts, within, orElse-parts, failIf-pass}
 use Rattle.checks.proofs.Chain.{orElse-assoc, orElse-given}
-use Rattle.gauge.specs.Tests.{Measured, Numbered}
 use Rattle.file.specs.Tags.{fileLength, Ready}
-use Rattle.file.specs.Reading.{fieldTest, restCheck, filmIn, LoadsBy}
+use Rattle.file.specs.Reading.{filmIn, LoadsBy}
 use Rattle.text.proofs.Writes.{sets-front}
 use Rattle.file.proofs.Tags.{length-known}
 
@@ -67,23 +66,6 @@ module _ (g : Gauge) (out : List ℕ) where
   save-refused e = record { answer-is = rw e; lent-is = rw e }
 
 -- ---- reading
-
--- where the fields after the shape have passed, so have the film's numbers but for dominance
-pub rest-numbered : (bytes : List ℕ) (g : Gauge) → Measured g → restCheck bytes g ≡ pass → Numbered g
-rest-numbered bytes g m e =
-    let n = length (g .weights) in
-    let t = length (g .thicknesses) in
-    let fourth = fieldTest bytes (15 + 2 * n) 4 g in
-    let fifth = fieldTest bytes (18 + 2 * n + t) 5 g in
-    let a = orElse-parts (fieldTest bytes 5 2 g orElse fieldTest bytes 12 3 g) _ e in
-    let b = orElse-parts (fieldTest bytes 5 2 g) _ (a .0) in
-    let c = orElse-parts (fourth orElse fifth) _ (a .1) in
-    let d = orElse-parts fourth _ (c .0) in
-    let ceiling = orElse-parts (fieldAt bytes 5 2 4) _ (b .0) .1 in
-    let weights = rw (m .weights-len) at (orElse-parts (fieldAt bytes 12 3 (2 * n)) _ (b .1) .1) in
-    let thicknesses = rw (m .weights-len, m .thicknesses-len) at (orElse-parts (fieldAt bytes (15 + 2 * n) 4 t) _ (d .0) .1) in
-    let wedge = rw (m .weights-len, m .thicknesses-len) at (orElse-parts (fieldAt bytes (18 + 2 * n + t) 5 4) _ (d .1) .1) in
-    record { measured = m; numbers = rw (ceiling, weights, thicknesses) wedge }
 
 -- the numbers in a file are as many as its shape says
 count-in : (bytes : List ℕ) → length (gaugeIn bytes .weights) ≡ cells (byteAt bytes rowsOffset) (byteAt bytes columnsOffset)

@@ -154,7 +154,7 @@ fn film_test(file: &[u8], head: Head, weights: &[u16], thicknesses: &[u8], wedge
     ensures { λ r. ⌜ checkOf r ≡ filmIn (now (file .entry)) (gaugeOf head (now (weights .entry)) (now (thicknesses .entry)) wedge) ⌝ }
 {
     match rest_test(file, head, weights, thicknesses, wedge) {
-        Tested::Fine => gauge::dominance_test(head, weights, thicknesses, wedge),
+        Tested::Fine => gauge::dominance::dominance_test(head, weights, thicknesses),
         Tested::Refused(r) => Tested::Refused(r),
     }
 }

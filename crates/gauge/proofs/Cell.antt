@@ -1,7 +1,7 @@
 -- One cell's coefficients: that they fit their types, and where the thicknesses around a cell stand.
 use mathlib.Core.Path.{_≡_, ap, _∙_}
-use Prim.Native.Nat.{ℕ, _+_, _-_, _*_, _/_, _%_, _≤_, _<_, _^_}
-use native.Mathlib.Nat.{mul-le-mul, add-mul, one-mul, div-lt-iff-lt-mul, mod-lt}
+use Prim.Native.Nat.{ℕ, _+_, _-_, _*_, _≤_, _<_, _^_}
+use native.Mathlib.Nat.{mul-le-mul, add-mul, one-mul}
 use native.Mathlib.Omega.{arith}
 use lib.Arith.{digits-lt}
 use lib.IntN.{ℤ, pos, negsuc, natAbs, _-ℤ_}
@@ -62,22 +62,23 @@ module _ (next last : ℕ) (h : next < 256) (k : last < 256) where
 
 -- ---- where the thicknesses around cell (r, c) stand, in rows of C columns and the ring
 
--- the places in the row before and in the next one
-down-place : (C r c : ℕ) → 1 ≤ r → r * (C + 2) + c - (C + 2) ≡ (r - 1) * (C + 2) + c
-down-place C r c h = omega (arith, ap (λ (k : ℕ). k * (C + 2)) back, add-mul (r - 1) 1 (C + 2), one-mul (C + 2))
+-- a row of w ends where the one before it ends, and w on
+pub row-end : (w r : ℕ) → 1 ≤ r → r * w ≡ (r - 1) * w + w
+row-end w r h = omega (arith, ap (λ (k : ℕ). k * w) back, add-mul (r - 1) 1 w, one-mul w)
   where
     back : r ≡ r - 1 + 1
     back = omega arith
 
+-- the places in the row before and in the next one
+down-place : (C r c : ℕ) → 1 ≤ r → r * (C + 2) + c - (C + 2) ≡ (r - 1) * (C + 2) + c
+down-place C r c h = omega (arith, row-end (C + 2) r h)
+
 up-place : (C r c : ℕ) → r * (C + 2) + c + (C + 2) ≡ (r + 1) * (C + 2) + c
 up-place C r c = omega (arith, add-mul r 1 (C + 2), one-mul (C + 2))
 
--- row and column of cell i, counted from 1
-pub row-column : {R C i : ℕ} → 1 ≤ C → i < R * C → (1 ≤ i / C + 1) × (i / C + 1 ≤ R) × (1 ≤ i % C + 1) × (i % C + 1 ≤ C)
-row-column {R} {C} {i} h k =
-    let row : i / C < R = div-lt-iff-lt-mul h .1 k in
-    let column : i % C < C = mod-lt i h in
-    omega arith
+-- at most 1,024 cells, and 1,156 thicknesses
+pub cells-low : (R C : ℕ) → R ≤ sideLimit → C ≤ sideLimit → R * C ≤ 1024
+cells-low R C h k = mul-le-mul h k
 
 pub ring-low : (R C : ℕ) → R ≤ sideLimit → C ≤ sideLimit → (R + 2) * (C + 2) ≤ 1156
 ring-low R C h k = mul-le-mul {n₁ = R + 2} {m₁ = C + 2} {n₂ = 34} {m₂ = 34} (omega arith) (omega arith)

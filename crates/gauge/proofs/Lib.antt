@@ -2,3 +2,4 @@
 pub mod Cell
 pub mod Written
 pub mod Tests
+pub mod Rows

@@ -1,32 +1,21 @@
 -- What passed tests say of a film's numbers, part by part.
-use mathlib.Core.Path.{_≡_, refl, _∙_}
+use mathlib.Core.Path.{_≡_, _∙_}
 use mathlib.Core.Bool.{Bool, true, not, _&&_}
-use mathlib.Core.List.{List, []}
-use Prim.Native.Nat.{ℕ, _*_, _≤_}
-use native.Mathlib.Nat.{mul-le-mul}
+use Prim.Native.Nat.{_≤_}
 use native.Mathlib.Omega.{arith}
 use borrow.Author.Tests.{eqb-true, not-false}
-use lib.IntN.{ℤ}
-use lib.ListN.{length, take}
-use Rattle.model.specs.Limits.{sideLimit}
+use lib.ListN.{length}
 use Rattle.model.specs.Gauge.{Gauge}
 use Rattle.model.specs.Refusals.{Check, pass, failIf, _orElse_}
-use Rattle.model.specs.Film.{beside, across, neighbours}
-use Rattle.model.specs.Coefficients.{formed}
-use Rattle.model.specs.Checks.{shapeCheck, ceilingCheck, notDominant, dominanceCheck}
-use Rattle.model.specs.Accepted.{Limited}
-use Rattle.model.specs.File.{cells, ringed, rowsOffset, columnsOffset, ceilingOffset, weightsCheck, thicknessesCheck, gaugeDominance, gaugeCheck}
-use Rattle.model.specs.FileCalls.{gaugeOf, gaugeFits, headOf}
-use Rattle.model.specs.declared.Head.{Head}
+use Rattle.model.specs.Checks.{shapeCheck}
+use Rattle.model.specs.File.{rowsOffset, columnsOffset, gaugeCheck}
+use Rattle.model.specs.FileCalls.{gaugeFits}
 use Rattle.model.proofs.Checks.{and-parts, orElse-parts, failIf-pass}
-use Rattle.model.proofs.File.{NumbersPassed, gauge-shape}
-use Rattle.model.proofs.Forming.{formed-limited}
-use Rattle.checks.specs.Parts.{sourceless}
+use Rattle.model.proofs.File.{gauge-shape}
 use Rattle.checks.proofs.Chain.{orElse-assoc}
-use Rattle.checks.proofs.Parts.{limited-sourceless}
-use Rattle.gauge.specs.Cell.{Ringed, Forming}
-use Rattle.gauge.specs.Tests.{sizedCheck, Measured, Numbered}
-use Rattle.gauge.proofs.Cell.{ring-low}
+use Rattle.gauge.specs.Cell.{Ringed}
+use Rattle.gauge.specs.Tests.{sizedCheck, Measured}
+use Rattle.gauge.proofs.Cell.{cells-low, ring-low}
 
 module _ {g : Gauge} (m : Measured g) where
   pub measured-ringed : Ringed (g .rows) (g .columns) (g .thicknesses)
@@ -44,8 +33,7 @@ module _ {g : Gauge} (m : Measured g) where
   pub weights-low : length (g .weights) ≤ 1024
   weights-low =
       let s = gauge-shape g (m .shape) in
-      let n : g .rows * g .columns ≤ sideLimit * sideLimit = mul-le-mul (s .rows-low) (s .columns-low) in
-      omega (arith, m .weights-len)
+      omega (arith, m .weights-len, cells-low (g .rows) (g .columns) (s .rows-low) (s .columns-low))
 
   pub thicknesses-low : length (g .thicknesses) ≤ 1156
   thicknesses-low =
@@ -59,37 +47,6 @@ lengths-pass g fits e f =
     let both = and-parts (gaugeFits g) fits f in
     let lengths = and-parts _ _ (both .0) in
     record { shape = e; weights-len = eqb-true _ _ (lengths .0); thicknesses-len = eqb-true _ _ (lengths .1) }
-
--- all tests but that of dominance
-numbers-passed : {g : Gauge} → Numbered g → NumbersPassed g
-numbers-passed {g} p =
-    let a = orElse-parts (ceilingCheck (g .ceiling) ceilingOffset) _ (p .numbers) in
-    let b = orElse-parts (weightsCheck (g .weights) (cells (g .rows) (g .columns))) _ (a .1) in
-    let c = orElse-parts (thicknessesCheck (g .thicknesses) (cells (g .rows) (g .columns)) (ringed (g .rows) (g .columns))) _ (b .1) in
-    record { shape = p .measured .shape; ceiling = a .0; weights = b .0; thicknesses = c .0; wedge = c .1 }
-
-pub numbered-limited : {g : Gauge} → Numbered g → Limited (formed g)
-numbered-limited {g} p = formed-limited g (numbers-passed p) (p .measured .weights-len)
-
--- sources do not count for dominance
-sourceless-dominance : (g : Gauge)
-    → dominanceCheck (sourceless (headOf g) (g .weights) (formed g .diagonals) (formed g .rights) (formed g .ups)) ≡ gaugeDominance g
-unfolding dominanceCheck gaugeDominance notDominant neighbours beside across
-sourceless-dominance g = refl
-
--- the coefficients that stand at the start of longer slices: they are within their limits, and their test of dominance is the film's
-module _ {h : Head} {weights thicknesses : List ℕ} {wedge : ℤ} (p : Numbered (gaugeOf h weights thicknesses wedge))
-    {diagonals rights ups : List ℕ} {sources : List ℤ} (b : Forming (gaugeOf h [] thicknesses wedge) diagonals rights ups sources) where
-  abbrev front : List ℕ → List ℕ
-  front l = take (length weights) l
-
-  pub front-limited : Limited (sourceless h weights (front diagonals) (front rights) (front ups))
-  front-limited = rw (p .measured .weights-len, b .diagonals-are, b .rights-are, b .ups-are) (limited-sourceless (numbered-limited p))
-
-  pub front-dominance : {x : Check} → x ≡ dominanceCheck (sourceless h weights (front diagonals) (front rights) (front ups))
-      → x ≡ gaugeDominance (gaugeOf h weights thicknesses wedge)
-  front-dominance e =
-      (rw (p .measured .weights-len, b .diagonals-are, b .rights-are, b .ups-are) at e) ∙ sourceless-dominance (gaugeOf h weights thicknesses wedge)
 
 -- document 01's order of tests, by the parts in which the code goes
 pub gauge-parts : (g : Gauge) (fits : Bool) {r : Check}

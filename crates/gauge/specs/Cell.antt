@@ -2,29 +2,41 @@
 use mathlib.Core.Path.{_≡_}
 use mathlib.Core.Bool.{Bool, cond}
 use mathlib.Core.List.{List}
-use Prim.Native.Nat.{ℕ, _+_, _-_, _/_, _%_, _≤_}
+use Prim.Native.Nat.{ℕ, _+_, _-_, _≤_}
 use lib.Dec.{ltb}
 use lib.IntN.{ℤ, pos, _-ℤ_, _*ℤ_}
 use lib.ListN.{length, take}
 use Rattle.model.specs.Limits.{sideLimit}
+use Rattle.model.specs.Lists.{tabulate}
 use Rattle.model.specs.Gauge.{Gauge, thicknessAt}
-use Rattle.model.specs.Film.{Film}
-use Rattle.model.specs.Coefficients.{linkOf, formed}
+use Rattle.model.specs.Coefficients.{linkOf, formedDiagonal, formedRight, formedUp, formedSource, byCell}
 use Rattle.model.specs.File.{cells, ringed}
 use Rattle.gauge.specs.declared.forming.Around.{Around}
+use Rattle.gauge.specs.declared.forming.Links.{Links}
 use Rattle.gauge.specs.declared.forming.Coefficients.{Coefficients}
 
 -- wedge × (thickness of the next column − thickness of the one before)
 abbrev pub sourceOf : ℤ → ℕ → ℕ → ℤ
 sourceOf wedge next last = wedge *ℤ (pos next -ℤ pos last)
 
+-- the four links, and their sum
+abbrev pub linksOf : Around → Links
+linksOf a =
+    record {
+      left = linkOf (a .own) (a .left);
+      right = linkOf (a .own) (a .right);
+      down = linkOf (a .own) (a .down);
+      up = linkOf (a .own) (a .up);
+      sum = linkOf (a .own) (a .left) + linkOf (a .own) (a .right) + linkOf (a .own) (a .down) + linkOf (a .own) (a .up);
+    }
+
 -- a link is counted if it stays in the grid
 abbrev pub coefficientsOf : Around → ℤ → Bool → Bool → Coefficients
 coefficientsOf a wedge inRow inColumn =
     record {
-      diagonal = linkOf (a .own) (a .left) + linkOf (a .own) (a .right) + linkOf (a .own) (a .down) + linkOf (a .own) (a .up);
-      right = cond inRow (linkOf (a .own) (a .right)) 0;
-      up = cond inColumn (linkOf (a .own) (a .up)) 0;
+      diagonal = linksOf a .sum;
+      right = cond inRow (linksOf a .right) 0;
+      up = cond inColumn (linksOf a .up) 0;
       source = sourceOf wedge (a .right) (a .left);
     }
 
@@ -39,11 +51,9 @@ aroundOf g r c =
       up = thicknessAt g (r + 1) c;
     }
 
--- the coefficients of cell i
-abbrev pub coefficientsAt : Gauge → ℕ → Coefficients
-coefficientsAt g i =
-    coefficientsOf (aroundOf g (i / g .columns + 1) (i % g .columns + 1)) (g .wedge) (ltb (i % g .columns + 1) (g .columns))
-    (ltb (i / g .columns + 1) (g .rows))
+-- the coefficients of cell (r, c)
+abbrev pub coefficientsAt : Gauge → ℕ → ℕ → Coefficients
+coefficientsAt g r c = coefficientsOf (aroundOf g r c) (g .wedge) (ltb c (g .columns)) (ltb r (g .rows))
 
 -- a shape that has passed its test, with a thickness for each place of the grid and its ring
 pub record Ringed (rows columns : ℕ) (thicknesses : List ℕ) : Type 0 where
@@ -60,12 +70,13 @@ pub record Room (n : ℕ) (diagonals rights ups : List ℕ) (sources : List ℤ)
   pub ups-room : n ≤ length ups
   pub sources-room : n ≤ length sources
 
--- the four lists begin with a film's coefficients
-pub record Begin (n : ℕ) (f : Film) (diagonals rights ups : List ℕ) (sources : List ℤ) : Type 0 where
-  pub diagonals-are : take n diagonals ≡ f .diagonals
-  pub rights-are : take n rights ≡ f .rights
-  pub ups-are : take n ups ≡ f .ups
-  pub sources-are : take n sources ≡ f .sources
+-- the four lists begin with the coefficients of a film's first n cells
+pub record FormedTo (n : ℕ) (g : Gauge) (diagonals rights ups : List ℕ) (sources : List ℤ) : Type 0 where
+  pub diagonals-are : take n diagonals ≡ tabulate n (byCell g (formedDiagonal g))
+  pub rights-are : take n rights ≡ tabulate n (byCell g (formedRight g))
+  pub ups-are : take n ups ≡ tabulate n (byCell g (formedUp g))
+  pub sources-are : take n sources ≡ tabulate n (byCell g (formedSource g))
 
+-- with those of all its cells
 abbrev pub Forming : Gauge → List ℕ → List ℕ → List ℕ → List ℤ → Type 0
-Forming g diagonals rights ups sources = Begin (cells (g .rows) (g .columns)) (formed g) diagonals rights ups sources
+Forming g diagonals rights ups sources = FormedTo (cells (g .rows) (g .columns)) g diagonals rights ups sources

@@ -2,11 +2,11 @@
 ghost use mathlib.Core.Path.{_≡_};
 ghost use mathlib.Core.Bool.{cond};
 ghost use mathlib.Core.List.{[]};
-ghost use Prim.Native.Nat.{_*_, _≤_, _<_};
+ghost use Prim.Native.Nat.{_≤_};
 ghost use lib.IntN.{pos};
 ghost use Rattle.model.specs.Coefficients.{linkOf};
 ghost use Rattle.model.specs.FileCalls.{gaugeOf};
-ghost use Rattle.gauge.specs.Cell.{sourceOf, coefficientsOf, coefficientsAt, aroundOf, Ringed};
+ghost use Rattle.gauge.specs.Cell.{linksOf, sourceOf, coefficientsOf, coefficientsAt, aroundOf, Ringed};
 use model::Head;
 
 // The thicknesses of a cell and of the four beside it, those of the boundary ring too.
@@ -16,6 +16,15 @@ pub struct Around {
     pub right: u8,
     pub down: u8,
     pub up: u8,
+}
+
+// The links of a cell to the four beside it, those to the ring too, and their sum.
+pub struct Links {
+    pub left: u32,
+    pub right: u32,
+    pub down: u32,
+    pub up: u32,
+    pub sum: u32,
 }
 
 pub struct Coefficients {
@@ -31,6 +40,22 @@ fn link(a: u8, b: u8) -> u32
 {
     let sum = (a as u32) + (b as u32);
     sum * sum * sum
+}
+
+pub fn links_of(around: Around) -> Links
+    ensures { λ r. ⌜ r ≡ linksOf around ⌝ }
+{
+    let left = link(around.own, around.left);
+    let right = link(around.own, around.right);
+    let down = link(around.own, around.down);
+    let up = link(around.own, around.up);
+    Links {
+        left,
+        right,
+        down,
+        up,
+        sum: left + right + down + up,
+    }
 }
 
 // The link, if it stays in the grid; else 0.
@@ -54,20 +79,17 @@ fn source_of(wedge: i32, next: u8, last: u8) -> i64
 fn coefficients_of(around: Around, wedge: i32, in_row: bool, in_column: bool) -> Coefficients
     ensures { λ r. ⌜ r ≡ coefficientsOf around wedge in_row in_column ⌝ }
 {
-    let left = link(around.own, around.left);
-    let right = link(around.own, around.right);
-    let down = link(around.own, around.down);
-    let up = link(around.own, around.up);
+    let links = links_of(around);
     Coefficients {
-        diagonal: left + right + down + up,
-        right: link_if(in_row, right),
-        up: link_if(in_column, up),
+        diagonal: links.sum,
+        right: link_if(in_row, links.right),
+        up: link_if(in_column, links.up),
         source: source_of(wedge, around.right, around.left),
     }
 }
 
 // The thicknesses of cell (row, column), which run from 1, and of the four beside it.
-fn around_at(head: Head, thicknesses: &[u8], row: usize, column: usize) -> Around
+pub fn around_at(head: Head, thicknesses: &[u8], row: usize, column: usize) -> Around
     requires { ⌜ Ringed (head .rows) (head .columns) (now thicknesses) ⌝ }
     requires { ⌜ (1 ≤ row) × (row ≤ head .rows) × (1 ≤ column) × (column ≤ head .columns) ⌝ }
     ensures { λ r. ⌜ r ≡ aroundOf (gaugeOf head [] (now (thicknesses .entry)) (pos 0)) row column ⌝ }
@@ -83,15 +105,20 @@ fn around_at(head: Head, thicknesses: &[u8], row: usize, column: usize) -> Aroun
     }
 }
 
-// The coefficients of cell `at`.
-pub fn coefficients_at(head: Head, thicknesses: &[u8], wedge: i32, at: usize) -> Coefficients
+// The coefficients of cell (row, column).
+pub fn coefficients_at(
+    head: Head,
+    thicknesses: &[u8],
+    wedge: i32,
+    row: usize,
+    column: usize,
+) -> Coefficients
     requires { ⌜ Ringed (head .rows) (head .columns) (now thicknesses) ⌝ }
-    requires { ⌜ at < head .rows * head .columns ⌝ }
-    ensures { λ r. ⌜ r ≡ coefficientsAt (gaugeOf head [] (now (thicknesses .entry)) wedge) at ⌝ }
+    requires { ⌜ (1 ≤ row) × (row ≤ head .rows) × (1 ≤ column) × (column ≤ head .columns) ⌝ }
+    ensures { λ r. ⌜ r ≡ coefficientsAt (gaugeOf head [] (now (thicknesses .entry)) wedge) row column ⌝ }
 {
-    let columns = head.columns as usize;
-    let row = at / columns + 1;
-    let column = at % columns + 1;
     let around = around_at(head, thicknesses, row, column);
-    coefficients_of(around, wedge, column < columns, row < (head.rows as usize))
+    let in_row = column < (head.columns as usize);
+    let in_column = row < (head.rows as usize);
+    coefficients_of(around, wedge, in_row, in_column)
 }

@@ -7,24 +7,24 @@
 ghost use mathlib.Core.Path.{_≡_};
 ghost use mathlib.Core.Bool.{_&&_};
 ghost use mathlib.Core.List.{[]};
-ghost use Prim.Native.Nat.{_*_, _≤_};
+ghost use Prim.Native.Nat.{_-_, _*_, _≤_};
 ghost use lib.Dec.{ltb};
 ghost use lib.IntN.{natAbs};
 ghost use lib.ListN.{length};
 ghost use Rattle.model.specs.Limits.{thicknessLimit, wedgeLimit};
 ghost use Rattle.model.specs.Refusals.{pass, checkOf};
 ghost use Rattle.model.specs.Checks.{outside, shapeCheck, ceilingCheck};
-ghost use Rattle.model.specs.File.{rowsOffset, columnsOffset, ceilingOffset, ringed, weightsCheck, thicknessesCheck, wedgeCheck, gaugeDominance, gaugeCheck};
+ghost use Rattle.model.specs.File.{rowsOffset, columnsOffset, ceilingOffset, ringed, weightsCheck, thicknessesCheck, wedgeCheck, gaugeCheck};
 ghost use Rattle.model.specs.FileCalls.{gaugeOf, gaugeFits};
-ghost use Rattle.gauge.specs.Cell.{Ringed, Room, Forming};
-ghost use Rattle.gauge.specs.Tests.{numbersCheck, valuesCheck, sizedCheck, Measured, Numbered};
+ghost use Rattle.gauge.specs.Cell.{Ringed, Room, FormedTo, Forming};
+ghost use Rattle.gauge.specs.Tests.{numbersCheck, valuesCheck, sizedCheck, Measured};
 use model::Fault;
 use model::Head;
 use model::Refusal;
 use model::Tested;
 
-// One cell's coefficients.
-mod forming;
+mod forming; // forming.rt: one cell's coefficients
+pub mod dominance; // dominance.rt: refusal 9
 
 // The limits of model/specs/Limits.
 const SIDE_LIMIT: u32 = 32;
@@ -114,7 +114,39 @@ pub fn wedge_test(wedge: i32, place: usize) -> Tested
     checks::fail_if(far_wedge(wedge), Fault::BadWedge, place)
 }
 
-// Writes the coefficients of a film's cells into the first N places of four slices.
+// Writes the coefficients of a row's cells into their places in four slices, where those of the rows before stand already.
+fn form_row(
+    head: Head,
+    thicknesses: &[u8],
+    wedge: i32,
+    row: usize,
+    diagonals: &mut [u32],
+    rights: &mut [u32],
+    ups: &mut [u32],
+    sources: &mut [i64],
+)
+    requires { ⌜ Ringed (head .rows) (head .columns) (now thicknesses) × (1 ≤ row) × (row ≤ head .rows) ⌝ }
+    requires { ⌜ Room (head .rows * head .columns) (now diagonals) (now rights) (now ups) (now sources) ⌝ }
+    requires { ⌜ FormedTo ((row - 1) * head .columns) (gaugeOf head [] (now thicknesses) wedge) (now diagonals) (now rights) (now ups) (now sources) ⌝ }
+    ensures { λ r. ⌜ FormedTo (row * head .columns) (gaugeOf head [] (now (thicknesses .entry)) wedge) (now (diagonals .exit)) (now (rights .exit)) (now (ups .exit)) (now (sources .exit)) ⌝ }
+{
+    let columns = head.columns as usize;
+    let first = (row - 1) * columns;
+    let mut i = 0;
+    while i < columns {
+        let cell = forming::coefficients_at(head, thicknesses, wedge, row, i + 1);
+        let source = cell.source;
+        let at = first + i;
+        diagonals[at] = cell.diagonal;
+        rights[at] = cell.right;
+        ups[at] = cell.up;
+        sources[at] = source;
+        i += 1;
+    }
+}
+
+// Writes the coefficients of a film's cells into the first N places of four slices, row by row: no cell needs a division for its row
+// and column.
 pub fn form(
     head: Head,
     thicknesses: &[u8],
@@ -128,39 +160,21 @@ pub fn form(
     requires { ⌜ Room (head .rows * head .columns) (now diagonals) (now rights) (now ups) (now sources) ⌝ }
     ensures { λ r. ⌜ Forming (gaugeOf head [] (now (thicknesses .entry)) wedge) (now (diagonals .exit)) (now (rights .exit)) (now (ups .exit)) (now (sources .exit)) ⌝ }
 {
-    let n = checks::area(head.rows, head.columns);
-    let mut i = 0;
-    while i < n {
-        let cell = forming::coefficients_at(head, thicknesses, wedge, i);
-        let source = cell.source;
-        diagonals[i] = cell.diagonal;
-        rights[i] = cell.right;
-        ups[i] = cell.up;
-        sources[i] = source;
-        i += 1;
+    let rows = head.rows as usize;
+    let mut row = 0;
+    while row < rows {
+        row += 1;
+        form_row(
+            head,
+            thicknesses,
+            wedge,
+            row,
+            diagonals,
+            rights,
+            ups,
+            sources,
+        );
     }
-}
-
-// Refusal 9, of a film's numbers that have passed all other tests: it forms their coefficients aside.
-pub fn dominance_test(head: Head, weights: &[u16], thicknesses: &[u8], wedge: i32) -> Tested
-    requires { ⌜ Numbered (gaugeOf head (now weights) (now thicknesses) wedge) ⌝ }
-    ensures { λ r. ⌜ checkOf r ≡ gaugeDominance (gaugeOf head (now (weights .entry)) (now (thicknesses .entry)) wedge) ⌝ }
-{
-    let n = weights.len();
-    let mut diagonals = [0u32; 1024];
-    let mut rights = [0u32; 1024];
-    let mut ups = [0u32; 1024];
-    let mut sources = [0i64; 1024];
-    form(
-        head,
-        thicknesses,
-        wedge,
-        &mut diagonals,
-        &mut rights,
-        &mut ups,
-        &mut sources,
-    );
-    checks::dominance::dominance_test(head, weights, &diagonals[..n], &rights[..n], &ups[..n])
 }
 
 // The number of thicknesses: a ring lies around the grid.
@@ -193,7 +207,7 @@ fn value_tests(head: Head, weights: &[u16], thicknesses: &[u8], wedge: i32) -> T
     ensures { λ r. ⌜ checkOf r ≡ valuesCheck (gaugeOf head (now (weights .entry)) (now (thicknesses .entry)) wedge) ⌝ }
 {
     match number_tests(head, weights, thicknesses, wedge) {
-        Tested::Fine => dominance_test(head, weights, thicknesses, wedge),
+        Tested::Fine => dominance::dominance_test(head, weights, thicknesses),
         Tested::Refused(r) => Tested::Refused(r),
     }
 }

@@ -53,7 +53,7 @@ module _ (test : ℕ → Bool) where
   first-keeps n h = rw (lt-ltb _ _ h)
 
   -- once found, it stays found
-  first-stays : (k i : ℕ) → i < k → firstOf test k ≡ i → (n : ℕ) → k ≤ n → firstOf test n ≡ i
+  pub first-stays : (k i : ℕ) → i < k → firstOf test k ≡ i → (n : ℕ) → k ≤ n → firstOf test n ≡ i
   first-stays k i h e zero l = absurd (omega arith)
   first-stays k i h e (suc n) l =
       elim (decLt n k) [

@@ -23,8 +23,8 @@ use Rattle.monotone.specs.Links.{pull}
 use Rattle.monotone.proofs.Compare.{pos-right}
 use Rattle.model.specs.Lists.{tabulate}
 use Rattle.model.specs.Gauge.{Gauge, thicknessAt}
-use Rattle.model.specs.Film.{linkIf, beside, across, neighbours, pullOf, diagonalAt, rightAt, upAt, slackOf, slack}
-use Rattle.model.specs.Coefficients.{linkOf, rightLink, upLink, formedDiagonal, formedRight, formedUp, formedSource, byCell, formed}
+use Rattle.model.specs.Film.{linkIf, beside, across, neighbours, pullOf, diagonalAt, rightAt, upAt, slackOf, slack, dominance}
+use Rattle.model.specs.Coefficients.{linkOf, leftLink, rightLink, downLink, upLink, formedDiagonal, formedRight, formedUp, formedSource, byCell, formed}
 use Rattle.model.specs.Reynolds.{isCell, pressureAt, reynolds}
 use Rattle.model.proofs.Integers.{sub-pos, sub-add, sub-sub, sub-neg, mul-sub, sub-same}
 use Rattle.model.proofs.Lists.{tabulate-at}
@@ -209,6 +209,21 @@ module _ (g : Gauge) (p : List ℕ) (r c : ℕ) (w : Cell g r c) where
       ∙ balance (between g r (c - 1) r c) (between g r c r (c + 1)) (between g (r - 1) c r c) (between g r c (r + 1) c)
       (pressureAt g p r c) (pressureAt g p r (c - 1)) (pressureAt g p r (c + 1)) (pressureAt g p (r - 1) c) (pressureAt g p (r + 1) c)
       (formedSource g r c)
+
+-- the weighted row sum, by a cell's four sides: the weight beyond each, 0 on the ring
+pub dominance-sides : (g : Gauge) (r c : ℕ) → (1 ≤ r) × (r ≤ g .rows) × (1 ≤ c) × (c ≤ g .columns) → let weight = pressureAt g (g .weights) in
+    dominance (formed g) ((r - 1) * g .columns + (c - 1))
+    ≡ slackOf (formedDiagonal g r c)
+    (leftLink g r c * weight r (c - 1) + rightLink g r c * weight r (c + 1) + (downLink g r c * weight (r - 1) c + upLink g r c * weight (r + 1) c))
+    (pos 0) (weight r c)
+dominance-sides g r c h =
+    let w : Cell g r c = omega arith in
+    λ j. slackOf (stored-at g w (formedDiagonal g) 0 j)
+    ((pull-sides g (g .weights) r c w
+    ∙ ap₂ (λ l d. l * pressureAt g (g .weights) r (c - 1) + rightLink g r c * pressureAt g (g .weights) r (c + 1)
+    + (d * pressureAt g (g .weights) (r - 1) c + upLink g r c * pressureAt g (g .weights) (r + 1) c)) (between-comm g r (c - 1) r c) (between-comm g (r - 1) c r c))
+    j)
+    (pos 0) (own-pressure g (g .weights) r c w j)
 
 -- the theorem, by index: cell i is in row i / columns + 1 and column i % columns + 1
 pub reynolds-slack : (g : Gauge) (p : List ℕ) (i : ℕ) → i < g .rows * g .columns

@@ -65,7 +65,7 @@ fn relaxations(
     requires { ⌜ length (now field) ≡ head .rows * head .columns ⌝ }
     ensures { λ r. ⌜ Gives (ended (sweepOf (ruleOf (systemOf (filmOf head [] (now (diagonals .entry)) (now (rights .entry)) (now (ups .entry)) (now (sources .entry))))) (ordering (filmOf head [] (now (diagonals .entry)) (now (rights .entry)) (now (ups .entry)) (now (sources .entry))) order) budget (begin (now (field .entry)))) accepted) (runAnswerOf r) (now (field .exit)) ⌝ }
 {
-    let n = checks::area(head.rows, head.columns);
+    let n = field.len();
     let columns = head.columns as usize;
     let mut table = [0u16; 1024];
     grid::order::fill_order(order, columns, n, &mut table);

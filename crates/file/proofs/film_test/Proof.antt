@@ -1,7 +1,4 @@
 -- `file::film_test` meets its contract.
-
--- `file::film_test` meets its contract.
-
 use mathlib.Core.Path.{_≡_}
 use native.Mathlib.Omega.{arith}
 use denote.Ref.{now}
@@ -9,10 +6,11 @@ use mir.Facts.{toZ-ofZ}
 use Rattle.model.specs.Refusals.{checkOf}
 use Rattle.model.specs.File.{rowsOffset, columnsOffset}
 use Rattle.model.specs.FileCalls.{gaugeOf}
-use Rattle.checks.proofs.Chain.{passed, goes-on, refuses}
+use Rattle.gauge.proofs.Tests.{measured-ringed}
+use Rattle.checks.proofs.Chain.{goes-on, refuses}
 use Rattle.file.specs.Reading.{restCheck}
 use Rattle.file.proofs.Tags.{cells-low, ringed-low}
-use Rattle.file.proofs.Calls.{sides-low, rest-numbered}
+use Rattle.file.proofs.Calls.{sides-low}
 use borrow.Author.Needs.{needs}
 use Rattle.file.proofs.film_test.Statement.{statement}
 use Rattle.file.proofs.film_test.Tie as tie
@@ -36,11 +34,7 @@ enum-told : tie.Need-enum-told
 enum-told c = search needs
 
 dominance-test-requires : tie.Need-dominance-test-requires
-dominance-test-requires c κs =
-    let t = c .before .before in
-    let s = t .before .before .before .before in
-    let e = passed (rest-is t) (c .enum-told .given .1) in
-    rw (toZ-ofZ (s .fits .wedge)) (rest-numbered (now (s .args .file)) _ (s .pre) e)
+dominance-test-requires c κs = let s = c .before .before .before .before .before .before in (measured-ringed (s .pre), s .pre .weights-len)
 
 enum-known-r : tie.Need-enum-known-r
 enum-known-r c = search needs
@@ -48,7 +42,7 @@ enum-known-r c = search needs
 returns : tie.Need-returns
 returns c =
     let t = c .before .before .before in
-    goes-on (rest-is t) (c .before .enum-told .given .1) (rw (toZ-ofZ (t .before .before .before .before .fits .wedge)) at (c .dominance-test .ensures))
+    goes-on (rest-is t) (c .before .enum-told .given .1) (c .dominance-test .ensures (t .before .before .before .before .args .wedge))
 
 returns-2 : tie.Need-returns-2
 returns-2 c = refuses (rest-is (c .before .before .before)) _ (c .before .r .given .1)

@@ -6,7 +6,8 @@ use Rattle.model.specs.Refusals.{checkOf}
 use Rattle.model.specs.Gauge.{Gauge}
 use Rattle.model.specs.FileCalls.{gaugeOf}
 use Rattle.gauge.specs.Tests.{numbersCheck}
-use Rattle.checks.proofs.Chain.{passed, goes-on, refuses}
+use Rattle.checks.proofs.Chain.{goes-on, refuses}
+use Rattle.gauge.proofs.Tests.{measured-ringed}
 use borrow.Author.Needs.{needs}
 use Rattle.gauge.proofs.value_tests.Statement.{statement}
 use Rattle.gauge.proofs.value_tests.Tie as tie
@@ -25,10 +26,7 @@ enum-told : tie.Need-enum-told
 enum-told c = search needs
 
 dominance-test-requires : tie.Need-dominance-test-requires
-dominance-test-requires c κs =
-    let t = c .before .before in
-    let s = t .before .before .before in
-    rw (toZ-ofZ (s .fits .wedge)) (record { measured = s .pre; numbers = passed (numbers-are t) (c .enum-told .given .1) })
+dominance-test-requires c κs = let s = c .before .before .before .before .before in (measured-ringed (s .pre), s .pre .weights-len)
 
 enum-known-r : tie.Need-enum-known-r
 enum-known-r c = search needs
@@ -36,8 +34,7 @@ enum-known-r c = search needs
 returns : tie.Need-returns
 returns c =
     let t = c .before .before .before in
-    goes-on (numbers-are t) (c .before .enum-told .given .1)
-    (rw (toZ-ofZ (t .before .before .before .fits .wedge)) at (c .dominance-test .ensures))
+    goes-on (numbers-are t) (c .before .enum-told .given .1) (c .dominance-test .ensures (t .before .before .before .args .wedge))
 
 returns-2 : tie.Need-returns-2
 returns-2 c = refuses (numbers-are (c .before .before .before)) _ (c .before .r .given .1)

@@ -13,21 +13,20 @@ use Rattle.run.proofs.Film.{cells-listed, cells-some, run-gives, counts
 use Rattle.run.proofs.relaxations.Statement.{statement}
 use Rattle.run.proofs.relaxations.Tie as tie
 
+abbrev start : tie.After-fill-order → tie.Start
+start f = f .before .before .before .before .before .before .before
+
 -- the film's cells have room in the table
-fits : (f : tie.After-fill-order) → f .before .before .before .area .result ≤ length (f .fill-order .last .1 .1 .1 .0)
-fits f =
-    let s = f .before .before .before .before .before .before .before .before in
-    omega (arith, size-low (s .pre .0 .1 .sized), f .before .before .before .area .ensures, f .fill-order .kept .1 .1 .1 .0)
+fits : (f : tie.After-fill-order) → length (now (start f .args .field)) ≤ length (f .fill-order .last .1 .1 .1 .0)
+fits f = omega (arith, size-low (start f .pre .0 .1 .sized), start f .pre .1, f .fill-order .kept .1 .1 .1 .0)
 
 -- the table lists the cells in the order
-listed : (f : tie.After-fill-order) → take (f .before .before .before .area .result) (f .fill-order .last .1 .1 .1 .0)
-    ≡ tabulate (f .before .before .before .before .before .before .before .before .args .head .rows * f .before .before .before .before .before .before .before .before .args .head .columns) (orderOf (f .before .before .before .before .before .before .before .before .args .head .columns) (f .before .before .before .before .before .before .before .before .args .head .rows * f .before .before .before .before .before .before .before .before .args .head .columns) (f .before .before .before .before .before .before .before .before .args .order))
+listed : (f : tie.After-fill-order) → let a = start f .args in
+    take (length (now (a .field))) (f .fill-order .last .1 .1 .1 .0)
+    ≡ tabulate (a .head .rows * a .head .columns) (orderOf (a .head .columns) (a .head .rows * a .head .columns) (a .order))
 listed f =
-    let s = f .before .before .before .before .before .before .before .before in
-    f .fill-order .ensures ∙ ap (λ (n : ℕ). tabulate n (orderOf (s .args .head .columns) n (s .args .order))) (f .before .before .before .area .ensures)
-
-area-requires : tie.Need-area-requires
-area-requires c κs = search needs
+    let a = start f .args in
+    f .fill-order .ensures ∙ ap (λ (n : ℕ). tabulate n (orderOf (a .head .columns) n (a .order))) (start f .pre .1)
 
 cast-columns : tie.Need-cast-columns
 cast-columns c = search needs
@@ -37,9 +36,9 @@ slice-aggregate-fill-order c = search needs
 
 fill-order-requires : tie.Need-fill-order-requires
 fill-order-requires c κs =
-    let s = c .before .before .before .before .before .before .before in
+    let s = c .before .before .before .before .before .before in
     let l = s .pre .0 .1 .sized in
-    omega (arith, l .columns-some, size-low l, c .before .before .area .ensures)
+    omega (arith, l .columns-some, size-low l, s .pre .1)
 
 array-share-prefix-table : tie.Need-array-share-prefix-table
 array-share-prefix-table c = fits (c .before)
@@ -49,15 +48,20 @@ slice-aggregate-sweep c = sym (length-take-le _ _ (fits (c .before .before)))
 
 sweep-requires : tie.Need-sweep-requires
 sweep-requires c κs =
-    let s = c .before .before .before .before .before .before .before .before .before .before .before in
-    let e = listed (c .before .before .before) in
-    (limited-loaded (s .pre .0 .1) (s .pre .1), (cells-listed (s .args .head) _ _ _ _ (s .pre .0 .0) (s .pre .0 .1) (s .args .order) _ (now (s .args .field)) e (s .pre .1), cells-some (s .args .head) _ _ _ _ (s .pre .0 .0) (s .pre .0 .1) (s .args .order) _ (now (s .args .field)) e (s .pre .1)))
+    let f = c .before .before .before in
+    let s = start f in
+    let a = s .args in (
+      limited-loaded (s .pre .0 .1) (s .pre .1),
+      (
+        cells-listed (a .head) _ _ _ _ (s .pre .0 .0) (s .pre .0 .1) (a .order) _ (now (a .field)) (listed f) (s .pre .1),
+        cells-some (a .head) _ _ _ _ (s .pre .0 .0) (s .pre .0 .1) (a .order) _ (now (a .field)) (listed f) (s .pre .1),
+      ),
+    )
 
 answered-requires : tie.Need-answered-requires
 answered-requires c κs =
     let x = c .before .before in
-    let s = x .before .before .before .before .before .before .before .before .before .before .before .before in
-    counts-low (x .sweep .ensures) (s .fits .budget .fits)
+    counts-low (x .sweep .ensures) (start (x .before .before .before .before) .fits .budget .fits)
 
 same-length : tie.Need-same-length
 same-length c = search needs
@@ -65,14 +69,16 @@ same-length c = search needs
 returns : tie.Need-returns
 returns c =
     let x = c .before .before .before in
-    let s = x .before .before .before .before .before .before .before .before .before .before .before .before in
-    run-gives (s .args .head) _ _ _ _ (s .pre .0 .0) (s .pre .0 .1) (s .args .order) _ (now (s .args .field)) (listed (x .before .before .before .before)) (s .pre .1) (s .args .budget) (s .args .accepted) _ _ _ (x .sweep .ensures) (c .answered .ensures)
+    let f = x .before .before .before .before in
+    let s = start f in
+    let a = s .args in
+    run-gives (a .head) _ _ _ _ (s .pre .0 .0) (s .pre .0 .1) (a .order) _ (now (a .field)) (listed f) (s .pre .1) (a .budget) (a .accepted) _ _ _
+    (x .sweep .ensures) (c .answered .ensures)
 
 pub relaxations-spec : {M : Type 1} → statement M
 relaxations-spec =
     tie.close
     (tie.spec
-    area-requires
     cast-columns
     slice-aggregate-fill-order
     fill-order-requires
