@@ -1,4 +1,4 @@
-//! Tells the linker where Film's archives are: `rt staticlib` writes them to target/staticlib.
+//! Tells the linker where Film's archive is: `rt staticlib` writes it to target/staticlib.
 
 use std::env;
 
@@ -6,8 +6,6 @@ fn main() {
     let package = env::var("CARGO_MANIFEST_DIR").expect("cargo sets it");
     let archives = format!("{package}/../../target/staticlib");
     println!("cargo:rustc-link-search=native={archives}");
-    for name in ["bench_run", "film_c"] {
-        println!("cargo:rustc-link-lib=static={name}");
-        println!("cargo:rerun-if-changed={archives}/lib{name}.a");
-    }
+    println!("cargo:rustc-link-lib=static=film_c");
+    println!("cargo:rerun-if-changed={archives}/libfilm_c.a");
 }

@@ -1,4 +1,4 @@
-//! Film's calls as its archives export them: a slice is a pointer and a length.
+//! Film's calls as its archive exports them: a slice is a pointer and a length.
 
 use crate::problem::{Problem, System};
 use film_oracle::film::Film;
@@ -7,25 +7,6 @@ use film_oracle::film::Film;
 pub type Refused = (u32, usize);
 
 extern "C" {
-    fn film_bench_run(
-        rows: u32,
-        columns: u32,
-        ceiling: u32,
-        weights: *const u16,
-        weights_len: usize,
-        diagonals: *const u32,
-        diagonals_len: usize,
-        rights: *const u32,
-        rights_len: usize,
-        ups: *const u32,
-        ups_len: usize,
-        sources: *const i64,
-        sources_len: usize,
-        field: *mut u32,
-        field_len: usize,
-        budget: u32,
-    ) -> u32;
-
     fn film_run(
         rows: u32,
         columns: u32,
@@ -90,40 +71,6 @@ extern "C" {
         length: *mut usize,
         place: *mut usize,
     ) -> u32;
-}
-
-/// The run of crate bench_run, by ordering 0 without proposals: the number of relaxations, 0 if
-/// refused.
-pub fn bench_run(problem: &Problem, field: &mut [u32], budget: u32) -> u32 {
-    let System {
-        weights,
-        diagonals,
-        rights,
-        ups,
-        sources,
-        ..
-    } = problem.system();
-    // SAFETY: every pointer comes from a slice, with that slice's length.
-    unsafe {
-        film_bench_run(
-            problem.rows as u32,
-            problem.columns as u32,
-            problem.ceiling,
-            weights.as_ptr(),
-            weights.len(),
-            diagonals.as_ptr(),
-            diagonals.len(),
-            rights.as_ptr(),
-            rights.len(),
-            ups.as_ptr(),
-            ups.len(),
-            sources.as_ptr(),
-            sources.len(),
-            field.as_mut_ptr(),
-            field.len(),
-            budget,
-        )
-    }
 }
 
 /// What `film_run` hands back.

@@ -11,9 +11,9 @@ use film_oracle::samples;
 const BUDGET: u32 = 400_000;
 
 const NOTE: &str = "\
-Film's run (order 0, no proposals) through two exported calls, and plain Rust -O3 doing the same: the tests of
-its input, the table of the ordering, and the same loop, with `get_unchecked` where Film's index is proved.
-Millions of relaxations a second. The field is cleared before each run, in the time of all sides.";
+`film_run` (order 0, no proposals) and plain Rust -O3 doing the same: the tests of its input, the table of the
+ordering, and the same loop, with `get_unchecked` where Film's index is proved. Millions of relaxations a second.
+The field is cleared before each run, in the time of both sides.";
 
 pub fn section() -> Section {
     let films = [
@@ -21,13 +21,12 @@ pub fn section() -> Section {
         ("mixed: journal bearing, 32 × 32", journal(32)),
         ("raise-heavy: stopped.film, 32 × 32", samples::stopped()),
     ];
-    let rows = |(name, film)| rows(name, &Problem::of_film(&film));
+    let row = |(name, film)| row(name, &Problem::of_film(&film));
     Section {
         title: "1. Relaxations a second",
         note: NOTE.to_string(),
         heads: vec![
             "film",
-            "Film's call",
             "relaxations",
             "raises",
             "Film M/s",
@@ -35,39 +34,26 @@ pub fn section() -> Section {
             "time ratio",
             "",
         ],
-        rows: films.into_iter().flat_map(rows).collect(),
+        rows: films.into_iter().map(row).collect(),
     }
 }
 
-fn rows(name: &str, problem: &Problem) -> [Vec<String>; 2] {
+fn row(name: &str, problem: &Problem) -> Vec<String> {
     let counts = agreed(problem, BUDGET);
-    let mut field = [problem.zeros(), problem.zeros(), problem.zeros()];
-    let [run, bench_run, rust] = &mut field;
-    let [run, bench_run, rust] = by_turns([
+    let (mut one, mut other) = (problem.zeros(), problem.zeros());
+    let [film, rust] = by_turns([
         &mut || {
-            run.fill(0);
-            let _ = calls::run(problem, run, BUDGET, 0, false);
+            one.fill(0);
+            let _ = calls::run(problem, &mut one, BUDGET, 0, false);
         },
         &mut || {
-            bench_run.fill(0);
-            calls::bench_run(problem, bench_run, BUDGET);
-        },
-        &mut || {
-            rust.fill(0);
-            plain::tested_run(problem.system(), rust, BUDGET);
+            other.fill(0);
+            plain::tested_run(problem.system(), &mut other, BUDGET);
         },
     ]);
-    [
-        row(name, "film_run", counts, run, rust),
-        row(name, "film_bench_run", counts, bench_run, rust),
-    ]
-}
-
-fn row(name: &str, call: &str, counts: Counts, film: f64, rust: f64) -> Vec<String> {
     let speed = |time: f64| format!("{:.1}", 1e3 * f64::from(counts.visits) / time);
     vec![
         name.to_string(),
-        call.to_string(),
         whole(counts.visits),
         percent(counts.raises, counts.visits),
         speed(film),
@@ -77,17 +63,13 @@ fn row(name: &str, call: &str, counts: Counts, film: f64, rust: f64) -> Vec<Stri
     ]
 }
 
-/// Both calls of Film, plain Rust and the oracle make the same relaxations and leave the same field.
+/// Film, plain Rust and the oracle make the same relaxations and leave the same field.
 pub fn agreed(problem: &Problem, budget: u32) -> Counts {
     let (outcome, expected) = problem.oracle_run(budget, 0, false);
     let mut field = problem.zeros();
     let ran = calls::run(problem, &mut field, budget, 0, false).expect("an accepted film");
     let same = (ran.visits, ran.raises) == (outcome.visits, outcome.raises);
     assert!(same && field == expected, "film_run and the oracle");
-    let mut field = problem.zeros();
-    let visits = calls::bench_run(problem, &mut field, budget);
-    let same = visits == outcome.visits && field == expected;
-    assert!(same, "film_bench_run and the oracle");
     let mut field = problem.zeros();
     let counts = plain::tested_run(problem.system(), &mut field, budget).expect("an accepted film");
     let same = (counts.visits, counts.raises) == (outcome.visits, outcome.raises);
