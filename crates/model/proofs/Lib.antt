@@ -8,6 +8,7 @@ pub mod Proposal
 pub mod Acceptance
 pub mod Estimate
 pub mod Run
+pub mod Refused
 pub mod History
 pub mod Demand
 pub mod File
