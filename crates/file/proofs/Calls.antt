@@ -2,12 +2,13 @@
 use mathlib.Core.Path.{_≡_, sym, ap, _∙_, subst}
 use mathlib.Core.Bool.{not, _&&_}
 use mathlib.Core.List.{List}
-use Prim.Native.Nat.{ℕ, _+_, _*_, _≤_}
-use borrow.Author.Tests.{eqb-true, not-false}
+use Prim.Native.Nat.{ℕ, _+_, _-_, _*_, _≤_, _<_}
+use native.Mathlib.Omega.{arith}
+use borrow.Author.Tests.{lt-ltb, eqb-true, not-false}
 use lib.Dec.{eqb}
 use lib.IntN.{ℤ}
-use lib.ListN.{length}
-use lib.Seq.{sets}
+use lib.ListN.{length, take, drop, length-drop}
+use lib.Seq.{sets, length-take-le, getD-take, getD-drop}
 use Rattle.model.specs.Limits.{sideLimit}
 use Rattle.model.specs.Lists.{tabulate}
 use Rattle.model.specs.declared.Head.{Head}
@@ -16,13 +17,14 @@ use Rattle.model.specs.Gauge.{Gauge}
 use Rattle.model.specs.Checks.{outside, shapeCheck}
 use Rattle.model.specs.Result.{Gives}
 use Rattle.model.specs.Bytes.{byteAt, wordAt, longAt, signedOf}
-use Rattle.model.specs.File.{cells, ringed, rowsOffset, columnsOffset, weightOffset, endOffset, fieldAt, gaugeIn, fileCheck, fileOf, gaugeCheck}
-use Rattle.model.specs.FileCalls.{gaugeOf, headOf, gaugeFits, WriteAnswer, written, saveCheck, saveCall, LoadAnswer, film, loadCheck, Loads}
-use Rattle.model.proofs.Lists.{tabulate-length}
+use Rattle.model.specs.File.{cells, ringed, rowsOffset, columnsOffset, weightOffset, thicknessOffset, wedgeOffset, endOffset, fieldAt, gaugeIn, fileCheck, fileOf, gaugeCheck}
+use Rattle.model.specs.FileCalls.{headOf, gaugeFits, WriteAnswer, written, saveCheck, saveCall, LoadAnswer, film, loadCheck, Loads}
+use Rattle.model.proofs.Lists.{tabulate-length, tabulate-is}
 use Rattle.model.proofs.Checks.{and-parts, within, orElse-parts, failIf-pass}
+use Rattle.model.proofs.File.{header}
 use Rattle.checks.proofs.Chain.{orElse-assoc, orElse-given}
 use Rattle.file.specs.Tags.{fileLength, Ready}
-use Rattle.file.specs.Reading.{filmIn, LoadsBy}
+use Rattle.file.specs.Reading.{fieldTest, restCheck, filmIn, standing, cutCheck, LoadsBy}
 use Rattle.text.proofs.Writes.{sets-front}
 use Rattle.file.proofs.Tags.{length-known}
 
@@ -66,6 +68,25 @@ module _ (g : Gauge) (out : List ℕ) where
   save-refused e = record { answer-is = rw e; lent-is = rw e }
 
 -- ---- reading
+
+-- where the fields after the shape have passed, the file has all thicknesses
+pub film-whole : (bytes : List ℕ) (g : Gauge) → filmIn bytes g ≡ pass → 18 + 2 * length (g .weights) + length (g .thicknesses) ≤ length bytes
+film-whole bytes g e =
+    let n = length (g .weights) in
+    let t = length (g .thicknesses) in
+    let rest = orElse-parts (restCheck bytes g) _ e .0 in
+    let late = orElse-parts (fieldTest bytes 5 2 g orElse fieldTest bytes 12 3 g) _ rest .1 in
+    let both = orElse-parts (fieldTest bytes (15 + 2 * n) 4 g orElse fieldTest bytes (18 + 2 * n + t) 5 g) _ late .0 in
+    let fourth = orElse-parts (fieldTest bytes (15 + 2 * n) 4 g) _ both .0 in
+    let h = header bytes (15 + 2 * n) 4 t (orElse-parts (fieldAt bytes (15 + 2 * n) 4 t) _ fourth .0) in
+    omega arith
+
+-- a file that has not is refused at their field or before it, whatever would come after
+pub film-cut : (bytes : List ℕ) (g : Gauge) {t : ℕ} → length (g .thicknesses) ≡ t → length bytes < 18 + 2 * length (g .weights) + t
+    → filmIn bytes g ≡ cutCheck bytes (g .ceiling) (g .weights) t
+unfolding fieldAt
+film-cut bytes g {t} e h =
+    let short : length bytes < 15 + 2 * length (g .weights) + 3 + t = omega arith in simp (e, orElse-assoc, lt-ltb _ _ short)
 
 -- the numbers in a file are as many as its shape says
 count-in : (bytes : List ℕ) → length (gaugeIn bytes .weights) ≡ cells (byteAt bytes rowsOffset) (byteAt bytes columnsOffset)
@@ -125,23 +146,35 @@ module _ (bytes weights thicknesses : List ℕ) where
       let k = load-parts bytes weights thicknesses ∙ ap (λ x. x orElse filmIn bytes (gaugeIn bytes)) e in
       record { answer-is = rw k; weights-are = rw k; thicknesses-are = rw k }
 
--- the numbers that were decoded are those in the file
-pub decoded : (bytes : List ℕ) {h : Head} {n t : ℕ} {w b : List ℕ} {z : ℤ} → h ≡ headOf (gaugeIn bytes) → n ≡ h .rows * h .columns
+-- the thicknesses of a file that has them all are a part of it
+pub stand-in : (bytes w : List ℕ) {n : ℕ} (t : ℕ) → length w ≡ n → 18 + 2 * n + t ≤ length bytes
+    → take (18 + 2 * n + t - (18 + 2 * n)) (drop (18 + 2 * n) bytes) ≡ tabulate t (λ j. byteAt bytes (thicknessOffset (length w) j))
+stand-in bytes w {n} t e h =
+    let from = 18 + 2 * n in
+    let size : from + t - from ≡ t = omega arith in
+    let room : t ≤ length (drop from bytes) = simp length-drop (omega arith) in
+    rw (e, size)
+    (tabulate-is t (λ j. byteAt bytes (from + j)) 0 (take t (drop from bytes)) (length-take-le t (drop from bytes) room)
+    (λ j l. getD-take t (drop from bytes) j 0 l ∙ getD-drop from bytes j 0))
+
+-- the numbers that were decoded, with the thicknesses that stand in the file, are those in the file
+pub decoded : (bytes : List ℕ) {h : Head} {n t : ℕ} {w : List ℕ} {z : ℤ} → h ≡ headOf (gaugeIn bytes) → n ≡ h .rows * h .columns
     → t ≡ (h .rows + 2) * (h .columns + 2) → w ≡ tabulate n (λ i. wordAt bytes (weightOffset i))
-    → b ≡ tabulate t (λ j. byteAt bytes (18 + 2 * n + j)) → z ≡ signedOf (longAt bytes (21 + 2 * n + t)) → gaugeOf h w b z ≡ gaugeIn bytes
-decoded bytes {h} {n} {t} {w} {b} {z} eh en et ew eb ez =
+    → z ≡ signedOf (longAt bytes (18 + 2 * n + t + 3)) → standing bytes h w t z ≡ gaugeIn bytes
+decoded bytes {h} {n} {t} {w} {z} eh en et ew ez =
     let cells-are : n ≡ cells (byteAt bytes rowsOffset) (byteAt bytes columnsOffset) = en ∙ ap (λ x. x .rows * x .columns) eh in
     let ring-is : t ≡ ringed (byteAt bytes rowsOffset) (byteAt bytes columnsOffset) = et ∙ ap (λ x. (x .rows + 2) * (x .columns + 2)) eh in
+    let count-is = ap length ew ∙ tabulate-length n _ ∙ cells-are in
+    let place : 18 + 2 * n + t + 3 ≡ wedgeOffset n t = omega arith in
     let weights = ew ∙ ap (λ m. tabulate m (λ i. wordAt bytes (weightOffset i))) cells-are in
-    let thicknesses = eb ∙ (λ k. tabulate (ring-is k) (λ j. byteAt bytes (18 + 2 * cells-are k + j))) in
-    let wedge = ez ∙ (λ k. signedOf (longAt bytes (21 + 2 * cells-are k + ring-is k))) in
+    let wedge = ez ∙ ap (λ m. signedOf (longAt bytes m)) place ∙ (λ k. signedOf (longAt bytes (wedgeOffset (cells-are k) (ring-is k)))) in
     λ k.
     record {
       rows = eh k .rows;
       columns = eh k .columns;
       ceiling = eh k .ceiling;
       weights = weights k;
-      thicknesses = thicknesses k;
+      thicknesses = tabulate (ring-is k) (λ j. byteAt bytes (thicknessOffset (count-is k) j));
       wedge = wedge k;
     }
 

@@ -2,7 +2,6 @@
 use mathlib.Core.Path.{_≡_}
 use mathlib.Core.Bool.{Bool, true, false, cond}
 use Prim.Native.Nat.{ℕ, _+_, _*_, _≤_}
-use native.Mathlib.Nat.{mul-le-mul}
 use native.Mathlib.Omega.{arith}
 use borrow.Author.Tests.{le-ltb}
 use lib.Dec.{eqb}
@@ -37,16 +36,6 @@ walk-stands a b c d e = record {
   fifth-at = omega arith;
   end-at = omega arith;
 }
-
--- a film's cells and thicknesses are at most 1,024 and 1,156
-pub cells-low : (rows columns : ℕ) → rows ≤ sideLimit → columns ≤ sideLimit → cells rows columns ≤ 1024
-cells-low rows columns h l = mul-le-mul h l
-
-pub ringed-low : (rows columns : ℕ) → rows ≤ sideLimit → columns ≤ sideLimit → ringed rows columns ≤ 1156
-ringed-low rows columns h l =
-    let r : rows + 2 ≤ 34 = omega arith in
-    let c : columns + 2 ≤ 34 = omega arith in
-    mul-le-mul r c
 
 pub length-known : (rows columns : ℕ) → rows ≤ sideLimit → columns ≤ sideLimit
     → fileLength rows columns ≡ endOffset (cells rows columns) (ringed rows columns)

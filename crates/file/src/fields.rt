@@ -6,7 +6,7 @@ ghost use lib.ListN.{length, take};
 ghost use lib.Seq.{sets};
 ghost use Rattle.model.specs.Lists.{tabulate};
 ghost use Rattle.model.specs.Refusals.{checkOf};
-ghost use Rattle.model.specs.Bytes.{byteAt, wordAt, long};
+ghost use Rattle.model.specs.Bytes.{wordAt, long};
 ghost use Rattle.model.specs.File.{weightOffset, fieldAt, field as fieldOf, weightBytes};
 ghost use Rattle.file.specs.Tags.{bodyLength, behind};
 use model::Fault;
@@ -109,8 +109,21 @@ pub fn field(file: &[u8], at: usize, tag: u8, n: usize, t: usize) -> Walked
     walk_field(file, at, tag, body_length(tag, n, t))
 }
 
-// The weights that stand in a file, into the first n places of a table.
-pub fn weights_in(file: &[u8], n: usize, weights: &mut [u16])
+// The weights of a file that has them all, into the first n places of a table: no byte needs a test of its own.
+fn whole_weights_in(file: &[u8], n: usize, weights: &mut [u16])
+    requires { ⌜ (n ≤ length (now weights)) × (n ≤ 1024) × (weightOffset n ≤ length (now file)) ⌝ }
+    ensures { λ r. ⌜ take n (now (weights .exit)) ≡ tabulate n (λ i. wordAt (now (file .entry)) (weightOffset i)) ⌝ }
+{
+    let mut i = 0;
+    while i < n {
+        let at = 15 + 2 * i;
+        weights[i] = crate::numbers::first_word(&file[at..]);
+        i += 1;
+    }
+}
+
+// The weights of a file that may be cut short: what is missing is 0.
+fn cut_weights_in(file: &[u8], n: usize, weights: &mut [u16])
     requires { ⌜ (n ≤ length (now weights)) × (n ≤ 1024) ⌝ }
     ensures { λ r. ⌜ take n (now (weights .exit)) ≡ tabulate n (λ i. wordAt (now (file .entry)) (weightOffset i)) ⌝ }
 {
@@ -121,15 +134,15 @@ pub fn weights_in(file: &[u8], n: usize, weights: &mut [u16])
     }
 }
 
-// The n bytes that begin at an offset, into the first places of a table.
-pub fn bytes_in(file: &[u8], from: usize, n: usize, bytes: &mut [u8])
-    requires { ⌜ (n ≤ length (now bytes)) × (n ≤ 4096) × (from ≤ 4096) ⌝ }
-    ensures { λ r. ⌜ take n (now (bytes .exit)) ≡ tabulate n (λ j. byteAt (now (file .entry)) (from + j)) ⌝ }
+// The weights that stand in a file, into the first n places of a table.
+pub fn weights_in(file: &[u8], n: usize, weights: &mut [u16])
+    requires { ⌜ (n ≤ length (now weights)) × (n ≤ 1024) ⌝ }
+    ensures { λ r. ⌜ take n (now (weights .exit)) ≡ tabulate n (λ i. wordAt (now (file .entry)) (weightOffset i)) ⌝ }
 {
-    let mut j = 0;
-    while j < n {
-        bytes[j] = crate::numbers::byte_at(file, from + j);
-        j += 1;
+    if file.len() < 15 + 2 * n {
+        cut_weights_in(file, n, weights)
+    } else {
+        whole_weights_in(file, n, weights)
     }
 }
 

@@ -14,7 +14,7 @@ ghost use Rattle.model.specs.File.{rowsOffset, columnsOffset, fieldAt, gaugeIn,
 ghost use Rattle.model.specs.FileCalls.{gaugeOf, headOf, saveCall, saveAnswerOf, Loads, loadAnswerOf};
 ghost use Rattle.gauge.specs.Tests.{Measured};
 ghost use Rattle.file.specs.Tags.{bodyLength, behind, fileLength, Ready};
-ghost use Rattle.file.specs.Reading.{valueCheck, fieldTest, restCheck, filmIn, LoadsBy};
+ghost use Rattle.file.specs.Reading.{valueCheck, fieldTest, restCheck, filmIn, standing, cutCheck, LoadsBy};
 use model::Fault;
 use model::Head;
 use model::Loaded;
@@ -159,7 +159,44 @@ fn film_test(file: &[u8], head: Head, weights: &[u16], thicknesses: &[u8], wedge
     }
 }
 
-// Reads a file whose shape has passed its tests: into tables of its own, and from there into the lent buffers once all tests have passed.
+// The tests of a file that ends before its t thicknesses do, as far as their field: it is refused there at the latest, so no later test
+// counts, and the thicknesses are not asked for.
+fn cut_test(file: &[u8], head: Head, weights: &[u16], t: usize) -> Tested
+    requires { ⌜ (length (now weights) ≤ 1024) × (t ≤ 1156) ⌝ }
+    ensures { λ r. ⌜ checkOf r ≡ cutCheck (now (file .entry)) (head .ceiling) (now (weights .entry)) t ⌝ }
+{
+    let n = weights.len();
+    let first = fields::field(file, 0, 1, n, t);
+    let second = fields::field(file, first.next, 2, n, t);
+    let third = fields::field(file, second.next, 3, n, t);
+    let fourth = fields::field(file, third.next, 4, n, t);
+    let ceiling = second.tested;
+    let weight = third.tested;
+    let thickness = fourth.tested;
+    checks::or_else(
+        checks::or_else(ceiling, gauge::ceiling_test(head.ceiling)),
+        checks::or_else(
+            checks::or_else(weight, gauge::weights_test(weights)),
+            thickness,
+        ),
+    )
+}
+
+// All tests after that of the shape's field, of the numbers of a file with t thicknesses: these are tested where they stand.
+fn numbers_test(file: &[u8], head: Head, weights: &[u16], t: usize, wedge: i32) -> Tested
+    requires { ⌜ Measured (standing (now file) head (now weights) t wedge) ⌝ }
+    ensures { λ r. ⌜ checkOf r ≡ filmIn (now (file .entry)) (standing (now (file .entry)) head (now (weights .entry)) t wedge) ⌝ }
+{
+    let from = 18 + 2 * weights.len();
+    let end = from + t;
+    if file.len() < end {
+        return cut_test(file, head, weights, t);
+    }
+    film_test(file, head, weights, &file[from..end], wedge)
+}
+
+// Reads a file whose shape has passed its tests. The lent buffers are written once all tests have passed: until then the weights are in
+// a table of its own, and the thicknesses stay where they stand.
 fn read_shaped(file: &[u8], weights: &mut [u16], thicknesses: &mut [u8]) -> Loaded
     requires { ⌜ shapeCheck (byteAt (now file) rowsOffset) rowsOffset (byteAt (now file) columnsOffset) columnsOffset ≡ pass ⌝ }
     requires { ⌜ (length (now weights) ≡ 1024) × (length (now thicknesses) ≡ 1156) ⌝ }
@@ -168,15 +205,15 @@ fn read_shaped(file: &[u8], weights: &mut [u16], thicknesses: &mut [u8]) -> Load
     let head = head_in(file);
     let n = checks::area(head.rows, head.columns);
     let t = checks::area(head.rows + 2, head.columns + 2);
+    let from = 18 + 2 * n;
+    let end = from + t;
     let mut words = [0u16; 1024];
-    let mut bytes = [0u8; 1156];
     fields::weights_in(file, n, &mut words);
-    fields::bytes_in(file, 18 + 2 * n, t, &mut bytes);
-    let wedge = numbers::signed(numbers::long_at(file, 21 + 2 * n + t));
-    match film_test(file, head, &words[..n], &bytes[..t], wedge) {
+    let wedge = numbers::signed(numbers::long_at(file, end + 3));
+    match numbers_test(file, head, &words[..n], t, wedge) {
         Tested::Fine => {
             put::put_words(weights, &words[..n]);
-            text::put_bytes(thicknesses, 0, &bytes[..t]);
+            text::put_bytes(thicknesses, 0, &file[from..end]);
             Loaded::Film(head, wedge)
         }
         Tested::Refused(r) => Loaded::Refused(r),

@@ -2,7 +2,8 @@
 // As in model/specs/Bytes, a byte past the file's end counts as 0: what a cut-short file lacks is read as 0, and the tests of its
 // fields refuse it.
 ghost use mathlib.Core.Path.{_≡_};
-ghost use Prim.Native.Nat.{_≤_};
+ghost use Prim.Native.Nat.{_+_, _*_, _≤_};
+ghost use lib.ListN.{length};
 ghost use Rattle.model.specs.Bytes.{byteAt, wordAt, longAt, signedOf, unsignedOf};
 
 pub fn byte_at(file: &[u8], at: usize) -> u8
@@ -14,11 +15,18 @@ pub fn byte_at(file: &[u8], at: usize) -> u8
     0
 }
 
+// A number of two bytes.
+fn word_of(high: u8, low: u8) -> u16
+    ensures { λ r. ⌜ r ≡ high * 256 + low ⌝ }
+{
+    (high as u16) * 256 + (low as u16)
+}
+
 pub fn word_at(file: &[u8], at: usize) -> u16
     requires { ⌜ at ≤ 65536 ⌝ }
     ensures { λ r. ⌜ r ≡ wordAt (now (file .entry)) at ⌝ }
 {
-    (byte_at(file, at) as u16) * 256 + (byte_at(file, at + 1) as u16)
+    word_of(byte_at(file, at), byte_at(file, at + 1))
 }
 
 pub fn long_at(file: &[u8], at: usize) -> u32
@@ -26,6 +34,24 @@ pub fn long_at(file: &[u8], at: usize) -> u32
     ensures { λ r. ⌜ r ≡ longAt (now (file .entry)) at ⌝ }
 {
     (word_at(file, at) as u32) * 65536 + (word_at(file, at + 2) as u32)
+}
+
+// The number of the first two bytes, the low one first. So the machine has its numbers: here, in a function of its own, the compiler
+// makes one read of the two.
+fn low_first(bytes: &[u8]) -> u16
+    requires { ⌜ 2 ≤ length (now bytes) ⌝ }
+    ensures { λ r. ⌜ r ≡ byteAt (now (bytes .entry)) 1 * 256 + byteAt (now (bytes .entry)) 0 ⌝ }
+{
+    word_of(bytes[1], bytes[0])
+}
+
+// The number at a slice's start, which has its two bytes.
+pub fn first_word(bytes: &[u8]) -> u16
+    requires { ⌜ 2 ≤ length (now bytes) ⌝ }
+    ensures { λ r. ⌜ r ≡ wordAt (now (bytes .entry)) 0 ⌝ }
+{
+    let n = low_first(bytes);
+    n % 256 * 256 + n / 256
 }
 
 // The number that 32 bits stand for, and back.

@@ -406,12 +406,12 @@ tabulate-add zero b f = simp zero-add
 tabulate-add (suc a) b f = simp suc-add (ap (λ r. f 0 ∷ r) (tabulate-add a b (λ j. f (suc j))))
 
 -- what a field's passed tests say
-record Header (l : List ℕ) (at tag size : ℕ) : Type 0 where
-  tag-is : byteAt l at ≡ tag
-  size-is : wordAt l (at + 1) ≡ size
-  fits : at + 3 + size ≤ length l
+pub record Header (l : List ℕ) (at tag size : ℕ) : Type 0 where
+  pub tag-is : byteAt l at ≡ tag
+  pub size-is : wordAt l (at + 1) ≡ size
+  pub fits : at + 3 + size ≤ length l
 
-header : (l : List ℕ) (at tag size : ℕ) → fieldAt l at tag size ≡ pass → Header l at tag size
+pub header : (l : List ℕ) (at tag size : ℕ) → fieldAt l at tag size ≡ pass → Header l at tag size
 unfolding fieldAt
 header l at tag size e =
     let a = orElse-parts (failIf (ltb (length l) (at + 3)) 1 (length l)) _ e in

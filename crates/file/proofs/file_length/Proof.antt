@@ -1,6 +1,4 @@
 -- `file::file_length` meets its contract.
-
--- `file::file_length` meets its contract.
 use mathlib.Core.Path.{sym}
 use Prim.Native.Nat.{_≤_}
 use native.Mathlib.Omega.{arith}
@@ -9,7 +7,8 @@ use lib.Dec.{ltb}
 use Rattle.model.specs.Limits.{sideLimit}
 use Rattle.model.proofs.Checks.{or-parts}
 use Rattle.file.specs.Tags.{fileLength}
-use Rattle.file.proofs.Tags.{cells-low, ringed-low, length-known}
+use Rattle.gauge.proofs.Cell.{cells-low, ring-low}
+use Rattle.file.proofs.Tags.{length-known}
 use borrow.Author.Needs.{needs}
 use Rattle.file.proofs.file_length.Statement.{statement}
 use Rattle.file.proofs.file_length.Tie as tie
@@ -45,7 +44,7 @@ area-requires-2 c κs = search needs
 add-result-2 : tie.Need-add-result-2
 add-result-2 c =
     let l = low (c .before .before) in
-    omega (arith, cells-low _ _ (l .0) (l .1), ringed-low _ _ (l .0) (l .1), c .before .area .ensures, c .area2 .ensures)
+    omega (arith, cells-low _ _ (l .0) (l .1), ring-low _ _ (l .0) (l .1), c .before .area .ensures, c .area2 .ensures)
 
 returns-2 : tie.Need-returns-2
 returns-2 c = let l = low (c .before .before) in rw (c .before .area .ensures, c .area2 .ensures) (sym (length-known _ _ (l .0) (l .1)))

@@ -1,16 +1,12 @@
 -- `file::film_test` meets its contract.
 use mathlib.Core.Path.{_≡_}
-use native.Mathlib.Omega.{arith}
 use denote.Ref.{now}
 use mir.Facts.{toZ-ofZ}
 use Rattle.model.specs.Refusals.{checkOf}
-use Rattle.model.specs.File.{rowsOffset, columnsOffset}
 use Rattle.model.specs.FileCalls.{gaugeOf}
-use Rattle.gauge.proofs.Tests.{measured-ringed}
+use Rattle.gauge.proofs.Tests.{measured-ringed, weights-low, thicknesses-low}
 use Rattle.checks.proofs.Chain.{goes-on, refuses}
 use Rattle.file.specs.Reading.{restCheck}
-use Rattle.file.proofs.Tags.{cells-low, ringed-low}
-use Rattle.file.proofs.Calls.{sides-low}
 use borrow.Author.Needs.{needs}
 use Rattle.file.proofs.film_test.Statement.{statement}
 use Rattle.file.proofs.film_test.Tie as tie
@@ -22,13 +18,7 @@ rest-is : (c : tie.After-rest-test) → let a = c .before .before .before .befor
 rest-is c = rw (toZ-ofZ (c .before .before .before .before .fits .wedge)) at (c .rest-test .ensures)
 
 rest-test-requires : tie.Need-rest-test-requires
-rest-test-requires c κs =
-    let s = c .before .before .before in
-    let h = s .args .head in
-    let low = sides-low (h .rows) (h .columns) rowsOffset columnsOffset (s .pre .shape) in (
-      omega (arith, s .pre .weights-len, cells-low (h .rows) (h .columns) (low .0) (low .1)),
-      omega (arith, s .pre .thicknesses-len, ringed-low (h .rows) (h .columns) (low .0) (low .1)),
-    )
+rest-test-requires c κs = let m = c .before .before .before .pre in (weights-low m, thicknesses-low m)
 
 enum-told : tie.Need-enum-told
 enum-told c = search needs

@@ -1,6 +1,4 @@
 -- `file::put_film` meets its contract.
-
--- `file::put_film` meets its contract.
 use mathlib.Core.Path.{_≡_, _∙_, ap}
 use native.Mathlib.Omega.{arith}
 use denote.Ref.{now}
@@ -8,7 +6,7 @@ use mir.Facts.{toZ-ofZ}
 use Rattle.model.specs.Gauge.{Gauge}
 use Rattle.model.specs.Bytes.{unsignedOf}
 use Rattle.model.specs.FileCalls.{gaugeOf}
-use Rattle.file.proofs.Tags.{cells-low, ringed-low}
+use Rattle.gauge.proofs.Cell.{cells-low, ring-low}
 use Rattle.file.proofs.Film.{film-put}
 use borrow.Author.Needs.{needs}
 use Rattle.file.proofs.put_film.Statement.{statement}
@@ -65,7 +63,7 @@ put-thicknesses-requires c κs =
     let shape = ceiling .before .before .before .before in
     let R = shape .before .before .before .before .before .pre in (
       omega (arith, R .out-len, R .weights-len, R .thicknesses-len, c .before .before .before .put-weights .kept .0, ceiling .put-number .kept .0, shape .put-shape .kept .0),
-      omega (arith, R .thicknesses-len, ringed-low _ _ (R .rows-low) (R .columns-low)),
+      omega (arith, R .thicknesses-len, ring-low _ _ (R .rows-low) (R .columns-low)),
     )
 
 mul-put-number : tie.Need-mul-put-number

@@ -1,6 +1,4 @@
 -- `file::read` meets its contract.
-
--- `file::read` meets its contract.
 use mathlib.Core.Path.{_≡_, sym, ap, _∙_}
 use denote.Ref.{now}
 use Rattle.model.specs.Refusals.{checkOf}

@@ -1,6 +1,4 @@
 -- `file::shape_field` meets its contract.
-
--- `file::shape_field` meets its contract.
 use Rattle.checks.proofs.Chain.{joined}
 use borrow.Author.Needs.{needs}
 use Rattle.file.proofs.shape_field.Statement.{statement}

@@ -1,7 +1,4 @@
 -- `file::write` meets its contract.
-
--- `file::write` meets its contract.
-
 use mathlib.Core.Path.{_≡_, sym, ap, _∙_}
 use denote.Ref.{now}
 use mir.Facts.{toZ-ofZ}

@@ -1,6 +1,4 @@
 -- `file::fields::field_at` meets its contract.
-
--- `file::fields::field_at` meets its contract.
 use Rattle.model.specs.File.{fieldAt}
 use Rattle.checks.proofs.Chain.{joined}
 use borrow.Author.Needs.{needs}

@@ -1,6 +1,4 @@
 -- `file::fields::put_weights` meets its contract.
-
--- `file::fields::put_weights` meets its contract.
 use mathlib.Core.Path.{refl}
 use Rattle.text.proofs.Writes.{sets-next}
 use denote.Ref.{now}

@@ -1,6 +1,4 @@
 -- `file::put::put_long` meets its contract.
-
--- `file::put::put_long` meets its contract.
 use denote.Ref.{now}
 use Rattle.model.specs.Bytes.{word}
 use Prim.Native.Nat.{_+_, _/_, _%_}

@@ -1,6 +1,4 @@
 -- `file::put::put_weights` meets its contract.
-
--- `file::put::put_weights` meets its contract.
 use denote.Ref.{now}
 use lib.ListN.{take}
 use mathlib.Core.Path.{refl}

@@ -1,6 +1,4 @@
 -- `file::put::put_words` meets its contract.
-
--- `file::put::put_words` meets its contract.
 use denote.Ref.{now}
 use lib.Seq.{length-take-le}
 use mathlib.Core.Path.{refl}

@@ -1,4 +1,4 @@
--- `file::fields::weights_in` meets its contract.
+-- `file::fields::cut_weights_in` meets its contract.
 use mathlib.Core.Path.{_≡_}
 use Prim.Native.Nat.{_-_, _≤_}
 use native.Mathlib.Omega.{arith}
@@ -6,8 +6,8 @@ use borrow.Author.Needs.{needs}
 use Rattle.grid.proofs.Fill.{Filled, fill-none, fill-more}
 use Rattle.model.specs.Bytes.{wordAt}
 use Rattle.model.specs.File.{weightOffset}
-use Rattle.file.proofs.fields.weights_in.Statement.{statement}
-use Rattle.file.proofs.fields.weights_in.Tie as tie
+use Rattle.file.proofs.fields.cut_weights_in.Statement.{statement}
+use Rattle.file.proofs.fields.cut_weights_in.Tie as tie
 
 abbrev Inv-loop : tie.InvT-loop
 Inv-loop file n weights₀ i₀ weights i = (i ≤ n) × Filled (λ k. wordAt file (weightOffset k)) i weights₀ weights
@@ -51,8 +51,8 @@ returns c =
     let e : l .loop .i ≡ l .before .before .before .args .n = omega arith in
     rw e at (l .loop .inv .1 .front)
 
-pub weights-in-spec : {M : Type 1} → statement M
-weights-in-spec =
+pub cut-weights-in-spec : {M : Type 1} → statement M
+cut-weights-in-spec =
     tie.close
     (tie.spec
     Inv-loop
