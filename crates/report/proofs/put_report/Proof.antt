@@ -17,7 +17,7 @@ use Rattle.model.specs.File.{Bytes, Values, gaugeCheck}
 use Rattle.model.specs.FileCalls.{gaugeOf, loadAnswerOf, Loads}
 use Rattle.model.specs.Report.{refusedLine, filmReport, reportOf}
 use Rattle.model.proofs.File.{Shaped, gauge-passes, gauge-shape}
-use Rattle.file.proofs.Tags.{cells-low, ringed-low}
+use Rattle.gauge.proofs.Cell.{cells-low, ring-low}
 use Rattle.file.proofs.Inverse.{used}
 use Rattle.text.specs.Writes.{Fits, Writes}
 use Rattle.report.proofs.Texts.{Read, read-report, refusal-report}
@@ -77,7 +77,7 @@ weights-room c =
 thicknesses-room : (c : tie.After-area2) → c .area2 .result ≤ length (read (found c) .read .last .1 .1 .0)
 thicknesses-room c =
     let h = found c in
-    omega (arith, c .area2 .ensures, ringed-low _ _ (shape h .rows-low) (shape h .columns-low), read h .read .kept .1 .1 .0)
+    omega (arith, c .area2 .ensures, ring-low _ _ (shape h .rows-low) (shape h .columns-low), read h .read .kept .1 .1 .0)
 
 slice-aggregate-read : tie.Need-slice-aggregate-read
 slice-aggregate-read c = search needs
