@@ -1,4 +1,5 @@
 -- Laws that the proofs of the functions, and other crates, share.
 pub mod Search
 pub mod Chain
+pub mod Rows
 pub mod Parts

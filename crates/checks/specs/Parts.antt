@@ -4,14 +4,21 @@ use mathlib.Core.List.{List}
 use Prim.Native.Nat.{ℕ, _*_}
 use lib.IntN.{ℤ, pos}
 use Rattle.model.specs.Lists.{tabulate}
-use Rattle.model.specs.Refusals.{Check, _orElse_}
+use Rattle.model.specs.Refusals.{Check, _orElse_, failFirst}
 use Rattle.model.specs.Film.{Film, filmOf}
-use Rattle.model.specs.Checks.{sizeCheck, coefficientCheck, weightCheck, dominanceCheck}
+use Rattle.model.specs.Checks.{badCoefficient, notDominant, sizeCheck, coefficientCheck, weightCheck, dominanceCheck}
 use Rattle.model.specs.declared.Head.{Head}
 
 -- 14, 6 and 9
 abbrev pub valueCheck : Film → Check
 valueCheck f = coefficientCheck f orElse weightCheck f orElse dominanceCheck f
+
+-- 14 and 9 in a film's first rows
+abbrev pub coefficientsTo : Film → ℕ → Check
+coefficientsTo f rows = failFirst (badCoefficient f) (rows * f .columns) 14 (λ i. i)
+
+abbrev pub dominanceTo : Film → ℕ → Check
+dominanceTo f rows = failFirst (notDominant f) (rows * f .columns) 9 (λ i. i)
 
 -- 4, 5, 10, 14, 6 and 9: the tests that every call has
 abbrev pub ownCheck : Film → Bool → Check

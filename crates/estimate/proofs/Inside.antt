@@ -13,7 +13,7 @@ use Rattle.monotone.specs.Links.{pull}
 use Rattle.model.specs.Film.{Film, sizeOf, rowOf, columnOf, rightAt, upAt, linkIf, beside, across, neighbours, pullOf}
 use Rattle.model.specs.Margin.{inside}
 use Rattle.grid.specs.Pull.{Links}
-use Rattle.model.proofs.Reynolds.{pull-append}
+use Rattle.model.proofs.Sides.{pull-append}
 
 -- a link counts the same with numbers that agree where it leads, and not more than its product
 if-same : (b : Bool) (cell link : ℕ) (x y : ℕ → ℕ) → (b ≡ true → x cell ≡ y cell)

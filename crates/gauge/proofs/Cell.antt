@@ -1,5 +1,5 @@
 -- One cell's coefficients: that they fit their types, and where the thicknesses around a cell stand.
-use mathlib.Core.Path.{_≡_, ap, _∙_}
+use mathlib.Core.Path.{_≡_, _∙_}
 use Prim.Native.Nat.{ℕ, _+_, _-_, _*_, _≤_, _<_, _^_}
 use native.Mathlib.Nat.{mul-le-mul, add-mul, one-mul}
 use native.Mathlib.Omega.{arith}
@@ -13,6 +13,7 @@ use mir.Facts.{toZ-ofZ, sfits-widen}
 use Rattle.model.specs.Limits.{sideLimit}
 use Rattle.model.specs.Gauge.{Gauge}
 use Rattle.model.specs.Coefficients.{linkOf}
+use Rattle.model.proofs.Sides.{row-end}
 use Rattle.model.proofs.Forming.{abs-mul, abs-sub}
 use Rattle.gauge.specs.Cell.{sourceOf, aroundOf, Ringed}
 use Rattle.gauge.specs.declared.forming.Around.{Around}
@@ -62,13 +63,6 @@ module _ (next last : ℕ) (h : next < 256) (k : last < 256) where
 
 -- ---- where the thicknesses around cell (r, c) stand, in rows of C columns and the ring
 
--- a row of w ends where the one before it ends, and w on
-pub row-end : (w r : ℕ) → 1 ≤ r → r * w ≡ (r - 1) * w + w
-row-end w r h = omega (arith, ap (λ (k : ℕ). k * w) back, add-mul (r - 1) 1 w, one-mul w)
-  where
-    back : r ≡ r - 1 + 1
-    back = omega arith
-
 -- the places in the row before and in the next one
 down-place : (C r c : ℕ) → 1 ≤ r → r * (C + 2) + c - (C + 2) ≡ (r - 1) * (C + 2) + c
 down-place C r c h = omega (arith, row-end (C + 2) r h)
@@ -76,10 +70,7 @@ down-place C r c h = omega (arith, row-end (C + 2) r h)
 up-place : (C r c : ℕ) → r * (C + 2) + c + (C + 2) ≡ (r + 1) * (C + 2) + c
 up-place C r c = omega (arith, add-mul r 1 (C + 2), one-mul (C + 2))
 
--- at most 1,024 cells, and 1,156 thicknesses
-pub cells-low : (R C : ℕ) → R ≤ sideLimit → C ≤ sideLimit → R * C ≤ 1024
-cells-low R C h k = mul-le-mul h k
-
+-- at most 1,156 thicknesses
 pub ring-low : (R C : ℕ) → R ≤ sideLimit → C ≤ sideLimit → (R + 2) * (C + 2) ≤ 1156
 ring-low R C h k = mul-le-mul {n₁ = R + 2} {m₁ = C + 2} {n₂ = 34} {m₂ = 34} (omega arith) (omega arith)
 

@@ -2,4 +2,3 @@
 pub mod Cell
 pub mod Written
 pub mod Tests
-pub mod Rows

@@ -1,12 +1,10 @@
 -- The tests of a film's numbers in parts.
 use mathlib.Core.Path.{_≡_}
 use mathlib.Core.Bool.{Bool, not, _&&_}
-use Prim.Native.Nat.{ℕ, _*_}
 use lib.ListN.{length}
 use Rattle.model.specs.Gauge.{Gauge}
-use Rattle.model.specs.Refusals.{Check, pass, _orElse_, failIf, failFirst}
-use Rattle.model.specs.Checks.{shapeCheck, ceilingCheck, notDominant}
-use Rattle.model.specs.Coefficients.{formed}
+use Rattle.model.specs.Refusals.{Check, pass, _orElse_, failIf}
+use Rattle.model.specs.Checks.{shapeCheck, ceilingCheck}
 use Rattle.model.specs.File.{cells, ringed, rowsOffset, columnsOffset, ceilingOffset, wedgeOffset, weightsCheck, thicknessesCheck, wedgeCheck, gaugeDominance}
 use Rattle.model.specs.FileCalls.{gaugeFits}
 
@@ -16,10 +14,6 @@ numbersCheck g =
     ceilingCheck (g .ceiling) ceilingOffset orElse weightsCheck (g .weights) (cells (g .rows) (g .columns))
     orElse thicknessesCheck (g .thicknesses) (cells (g .rows) (g .columns)) (ringed (g .rows) (g .columns))
     orElse wedgeCheck (g .wedge) (wedgeOffset (cells (g .rows) (g .columns)) (ringed (g .rows) (g .columns)))
-
--- 9 in the film's first rows
-abbrev pub dominanceTo : Gauge → ℕ → Check
-dominanceTo g rows = failFirst (notDominant (formed g)) (rows * g .columns) 9 (λ i. i)
 
 -- 5, 6, 7, 8 and 9
 abbrev pub valuesCheck : Gauge → Check

@@ -1,34 +1,20 @@
 // Refusal 9 of a film's numbers: the weighted row sums straight from thicknesses and weights, row by row. No table of coefficients
 // is made for it, since clearing one costs more than a small film's whole test.
 ghost use mathlib.Core.Path.{_≡_};
-ghost use mathlib.Core.List.{[]};
 ghost use Prim.Native.Nat.{_+_, _-_, _*_, _≤_};
 ghost use lib.IntN.{ℤ, pos};
 ghost use lib.ListN.{length};
 ghost use Rattle.model.specs.Refusals.{pass, checkOf};
-ghost use Rattle.model.specs.Reynolds.{pressureAt};
 ghost use Rattle.model.specs.Coefficients.{formed};
 ghost use Rattle.model.specs.Checks.{notDominant};
 ghost use Rattle.model.specs.File.{gaugeDominance};
 ghost use Rattle.model.specs.FileCalls.{gaugeOf};
+ghost use Rattle.checks.specs.Parts.{dominanceTo};
 ghost use Rattle.gauge.specs.Cell.{Ringed};
-ghost use Rattle.gauge.specs.Tests.{dominanceTo};
 use model::Fault;
 use model::Head;
 use model::Refusal;
 use model::Tested;
-
-// The weight of cell (row, column), which run from 1; 0 on the ring.
-fn weight_at(head: Head, weights: &[u16], row: usize, column: usize) -> u32
-    requires { ⌜ (head .rows ≤ 32) × (head .columns ≤ 32) × (length (now weights) ≡ head .rows * head .columns) ⌝ }
-    ensures { λ r. ⌜ r ≡ pressureAt (gaugeOf head [] [] (pos 0)) (now (weights .entry)) row column ⌝ }
-{
-    let columns = head.columns as usize;
-    if (1 <= row) & (row <= (head.rows as usize)) & (1 <= column) & (column <= columns) {
-        return weights[(row - 1) * columns + (column - 1)] as u32;
-    }
-    0
-}
 
 // Whether the weighted row sum of cell (row, column) is below 1: the weights beside it pull at least as much as its own bears.
 fn not_dominant(head: Head, weights: &[u16], thicknesses: &[u8], row: usize, column: usize) -> bool
@@ -37,18 +23,25 @@ fn not_dominant(head: Head, weights: &[u16], thicknesses: &[u8], row: usize, col
     ensures { λ r. ⌜ r ≡ notDominant (formed (gaugeOf head (now (weights .entry)) (now (thicknesses .entry)) (pos 0))) ((row - 1) * head .columns + (column - 1)) ⌝ }
 {
     let links = crate::forming::links_of(crate::forming::around_at(head, thicknesses, row, column));
-    let left = cell::product(links.left, weight_at(head, weights, row, column - 1));
-    let right = cell::product(links.right, weight_at(head, weights, row, column + 1));
-    let down = cell::product(links.down, weight_at(head, weights, row - 1, column));
-    let up = cell::product(links.up, weight_at(head, weights, row + 1, column));
-    cell::product(links.sum, weight_at(head, weights, row, column)) <= left + right + (down + up)
+    let pull = grid::weights::pull(
+        head,
+        weights,
+        row,
+        column,
+        links.left,
+        links.right,
+        links.down,
+        links.up,
+    );
+    let weight = grid::weights::weight_at(head, weights, row, column);
+    cell::product(links.sum, weight) <= pull
 }
 
 // Refusal 9 in a row, at its lowest cell, where the rows before it have passed: so it is that of all rows up to this one.
 fn row_test(head: Head, weights: &[u16], thicknesses: &[u8], row: usize) -> Tested
     requires { ⌜ Ringed (head .rows) (head .columns) (now thicknesses) × (length (now weights) ≡ head .rows * head .columns) ⌝ }
-    requires { ⌜ (1 ≤ row) × (row ≤ head .rows) × (dominanceTo (gaugeOf head (now weights) (now thicknesses) (pos 0)) (row - 1) ≡ pass) ⌝ }
-    ensures { λ r. ⌜ checkOf r ≡ dominanceTo (gaugeOf head (now (weights .entry)) (now (thicknesses .entry)) (pos 0)) row ⌝ }
+    requires { ⌜ (1 ≤ row) × (row ≤ head .rows) × (dominanceTo (formed (gaugeOf head (now weights) (now thicknesses) (pos 0))) (row - 1) ≡ pass) ⌝ }
+    ensures { λ r. ⌜ checkOf r ≡ dominanceTo (formed (gaugeOf head (now (weights .entry)) (now (thicknesses .entry)) (pos 0))) row ⌝ }
 {
     let columns = head.columns as usize;
     let mut i = 0;
@@ -56,7 +49,7 @@ fn row_test(head: Head, weights: &[u16], thicknesses: &[u8], row: usize) -> Test
         if not_dominant(head, weights, thicknesses, row, i + 1) {
             return Tested::Refused(Refusal {
                 fault: Fault::NotDominant,
-                place: (row - 1) * columns + i,
+                place: grid::index_of(head, row, i + 1),
             });
         }
         i += 1;

@@ -2,22 +2,21 @@
 use mathlib.Core.Path.{_≡_, sym, ap, _∙_}
 use mathlib.Core.List.{List, []}
 use Prim.Native.Nat.{ℕ, _*_, _≤_, _<_, _^_}
-use native.Mathlib.Nat.{mul-le-mul}
 use native.Mathlib.Omega.{arith}
 use lib.IntN.{ℤ}
 use lib.ListN.{length, getD}
-use Rattle.model.specs.Limits.{sideLimit}
 use Rattle.model.specs.Film.{Film, filmOf, sizeOf, diagonalAt, sourceAt, beside, across, neighbours, pullOf, slackOf, slack}
 use Rattle.model.specs.Accepted.{Sized, Limited}
 use Rattle.model.specs.declared.Head.{Head}
 use Rattle.model.proofs.Integers.{lift-low, drop-low}
 use Rattle.model.proofs.Lists.{getD-low}
+use Rattle.model.proofs.Sides.{cells-low}
 use Rattle.cell.specs.declared.Cell.{Cell}
 use Rattle.grid.specs.Pull.{Links, Limits, Loaded, pullBy, cellBy}
 use Rattle.grid.proofs.Neighbours.{Edges, pull-is}
 
 pub size-low : {f : Film} → Sized f → sizeOf f ≤ 1024
-size-low {f} s = let m : f .rows * f .columns ≤ sideLimit * sideLimit = mul-le-mul (s .rows-low) (s .columns-low) in omega arith
+size-low {f} s = cells-low (f .rows) (f .columns) (s .rows-low) (s .columns-low)
 
 module _ {f : Film} (l : Limited f) where
   -- links that leave the grid are 0
@@ -33,7 +32,7 @@ module _ {f : Film} (l : Limited f) where
         small = getD-low list (sizeOf f) (2 ^ 26) e h;
       }
 
-  pub cell-limits : (i : ℕ) → i < sizeOf f → Limits (diagonalAt f i) (sourceAt f i)
+  cell-limits : (i : ℕ) → i < sizeOf f → Limits (diagonalAt f i) (sourceAt f i)
   cell-limits i h =
       let c = l .cell i h in
       record {
@@ -58,7 +57,7 @@ module _ {f : Film} (l : Limited f) where
       }
 
   -- the pull by index, as the code works it out, is document 01's
-  pub limited-pull : (numbers : List ℕ) (i : ℕ) → i < sizeOf f → pullBy (f .columns) (f .rights) (f .ups) numbers i ≡ pullOf f numbers i
+  limited-pull : (numbers : List ℕ) (i : ℕ) → i < sizeOf f → pullBy (f .columns) (f .rights) (f .ups) numbers i ≡ pullOf f numbers i
   limited-pull numbers i h = pull-is f numbers limited-edges i h
 
   -- the cell that is loaded has document 01's diagonal, pull and source

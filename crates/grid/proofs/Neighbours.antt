@@ -11,7 +11,7 @@ use lib.Dec.{ltb}
 use lib.ListN.{getD}
 use Rattle.monotone.specs.Links.{pull}
 use Rattle.model.specs.Film.{Film, sizeOf, rowOf, columnOf, rightAt, upAt, linkIf, beside, across, neighbours, pullOf}
-use Rattle.model.proofs.Reynolds.{pull-append}
+use Rattle.model.proofs.Sides.{pull-append}
 use Rattle.grid.specs.Pull.{backOf, aheadOf, pullBy}
 use Rattle.grid.proofs.Pull.{back-none, back-some}
 

@@ -1,4 +1,4 @@
-// A film's grid in lent slices: loading a cell with its neighbours' pull, and the table of an ordering.
+// A film's grid in lent slices: loading a cell with its neighbours' pull, weights by row and column, and the table of an ordering.
 // Internal: other crates of Film call it.
 //
 // Links that leave the grid are 0 (refusal 14 sees to it), so the pull needs no rows and columns: the neighbours of cell i are
@@ -6,7 +6,7 @@
 // neighbours inside the grid.
 ghost use mathlib.Core.Path.{_≡_};
 ghost use mathlib.Core.List.{List, []};
-ghost use Prim.Native.Nat.{ℕ, _*_, _≤_, _<_, _^_};
+ghost use Prim.Native.Nat.{ℕ, _+_, _-_, _*_, _≤_, _<_, _^_};
 ghost use lib.ListN.{length, take};
 ghost use Rattle.model.specs.Film.{filmOf, slack};
 ghost use Rattle.model.specs.Accepted.{Limited};
@@ -15,6 +15,16 @@ use cell::Cell;
 use model::Head;
 
 pub mod order; // order.rt: the table of an ordering
+pub mod weights; // weights.rt: a cell's weight, and what those beside it pull
+
+// The index of cell (row, column), which run from 1.
+pub fn index_of(head: Head, row: usize, column: usize) -> usize
+    requires { ⌜ (head .rows ≤ 32) × (head .columns ≤ 32) ⌝ }
+    requires { ⌜ (1 ≤ row) × (row ≤ head .rows) × (1 ≤ column) × (column ≤ head .columns) ⌝ }
+    ensures { λ r. ⌜ (r ≡ (row - 1) * head .columns + (column - 1)) × (r < head .rows * head .columns) × (r < 1024) ⌝ }
+{
+    (row - 1) * (head.columns as usize) + (column - 1)
+}
 
 // The link to the cell that lies `step` before `at`, times that cell's number; 0 if there is none.
 pub fn pull_back(links: &[u32], numbers: &[u32], at: usize, step: usize) -> u64
@@ -92,7 +102,7 @@ pub fn slack_of(
     cell_at(diagonals, rights, ups, sources, columns, field, at).slack(pressure)
 }
 
-// Copies weights into 32-bit numbers, so that one function loads a cell with weights or with pressures.
+// Copies weights into 32-bit numbers: the margin loads a cell with them and with ones by the function that takes pressures.
 pub fn widen(weights: &[u16], numbers: &mut [u32])
     requires { ⌜ length (now weights) ≤ length (now numbers) ⌝ }
     ensures { λ r. ⌜ take (length (now (weights .entry))) (now (numbers .exit)) ≡ now (weights .entry) ⌝ }

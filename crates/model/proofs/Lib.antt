@@ -1,9 +1,10 @@
 -- Laws of the model.
 pub mod Integers
 pub mod Lists
-pub mod Reynolds
 pub mod Film
 pub mod Checks
+pub mod Sides
+pub mod Reynolds
 pub mod Proposal
 pub mod Acceptance
 pub mod Estimate

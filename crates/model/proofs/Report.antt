@@ -24,7 +24,7 @@ use Rattle.model.specs.ReportCall.{longestReport}
 use Rattle.model.specs.declared.Counts.{Counts}
 use Rattle.model.proofs.Integers.{sub-source, lift-low, drop-low}
 use Rattle.model.proofs.Lists.{getD-low}
-use Rattle.model.proofs.Reynolds.{pull-append}
+use Rattle.model.proofs.Sides.{pull-append}
 use Rattle.model.proofs.Run.{visitsOf, raisesOf, run-budget, run-raises, run-good}
 use Rattle.model.proofs.File.{read-values}
 use Rattle.model.proofs.Forming.{formed-accepted}

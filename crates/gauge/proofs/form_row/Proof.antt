@@ -9,8 +9,8 @@ use mir.Syntax.{w32}
 use mir.Val.{toZ}
 use mir.Facts.{toZ-ofZ}
 use Rattle.model.specs.FileCalls.{gaugeOf}
+use Rattle.model.proofs.Sides.{row-end, cells-low}
 use Rattle.gauge.specs.Cell.{Room}
-use Rattle.gauge.proofs.Cell.{row-end, cells-low}
 use Rattle.gauge.proofs.Written.{Written, written-from, written-to, written-room, written-more}
 use Rattle.gauge.proofs.form_row.Statement.{statement}
 use Rattle.gauge.proofs.form_row.Tie as tie

@@ -1,10 +1,11 @@
 -- `checks::coefficients::bad_coefficient` meets its contract.
-use native.Mathlib.Nat.{mod-le, div-le-self}
+use mathlib.Core.Path.{_≡_}
+use Prim.Native.Nat.{_+_, _-_}
 use native.Mathlib.Omega.{arith}
 use borrow.Author.Needs.{needs, sfits-of}
 use mir.Facts.{toZ-ofZ}
 use Rattle.model.specs.Checks.{badCoefficient}
-use Rattle.grid.proofs.Limited.{size-low}
+use Rattle.model.proofs.Sides.{Cell, index-row, index-column}
 use Rattle.checks.proofs.coefficients.bad_coefficient.Statement.{statement}
 use Rattle.checks.proofs.coefficients.bad_coefficient.Tie as tie
 
@@ -13,6 +14,9 @@ cast-rows c = search needs
 
 cast-columns : tie.Need-cast-columns
 cast-columns c = search needs
+
+index-of-requires : tie.Need-index-of-requires
+index-of-requires c κs = search needs
 
 mul-right : tie.Need-mul-right
 mul-right c = search needs
@@ -35,21 +39,11 @@ shared-slice-read-outside c = search needs
 outside-requires : tie.Need-outside-requires
 outside-requires c κs = search needs
 
-rem-leaves-grid : tie.Need-rem-leaves-grid
-rem-leaves-grid c = search needs
-
 leaves-grid-requires : tie.Need-leaves-grid-requires
-leaves-grid-requires c κs =
-    let s = c .before .before .before .before .before .before .before .before .before in
-    omega (arith, size-low (s .pre .0), mod-le (s .args .at) (s .args .head .columns))
-
-div-leaves-grid : tie.Need-div-leaves-grid
-div-leaves-grid c = search needs
+leaves-grid-requires c κs = search needs
 
 leaves-grid-requires-2 : tie.Need-leaves-grid-requires-2
-leaves-grid-requires-2 c κs =
-    let s = c .before .before .before .before .before .before .before .before .before .before in
-    omega (arith, size-low (s .pre .0), div-le-self (s .args .at) (s .args .head .columns))
+leaves-grid-requires-2 c κs = search needs
 
 mul-far-source : tie.Need-mul-far-source
 mul-far-source c = search needs
@@ -63,12 +57,24 @@ far-source-requires c κs = search needs
 returns : tie.Need-returns
 unfolding badCoefficient
 returns c =
+    let o = c .before .before .before .before in
+    let i = o .before .before .before .before in
+    let s = i .before .before .before .before .before .before in
+    let a = s .args in
+    let w : Cell (a .head .rows) (a .head .columns) (a .row) (a .column) = omega (arith, s .pre .1) in
+    let row : a .row - 1 + 1 ≡ a .row = omega (arith, s .pre .1) in
+    let column : a .column - 1 + 1 ≡ a .column = omega (arith, s .pre .1) in
     rw (
-      c .before .before .before .before .outside .ensures,
+      index-row w,
+      index-column w,
+      row,
+      column,
+      o .outside .ensures,
       c .before .before .before .leaves-grid .ensures,
       c .before .before .leaves-grid2 .ensures,
       c .far-source .ensures,
       toZ-ofZ (sfits-of (c .before .far-source-arg .given)),
+      i .index-of .ensures .0,
     )
 
 pub bad-coefficient-spec : {M : Type 1} → statement M
@@ -77,6 +83,7 @@ bad-coefficient-spec =
     (tie.spec
     cast-rows
     cast-columns
+    index-of-requires
     mul-right
     shared-slice-read-right
     mul-up
@@ -84,9 +91,7 @@ bad-coefficient-spec =
     mul-outside
     shared-slice-read-outside
     outside-requires
-    rem-leaves-grid
     leaves-grid-requires
-    div-leaves-grid
     leaves-grid-requires-2
     mul-far-source
     shared-slice-copy-out-far-source
