@@ -7,7 +7,8 @@ use lib.Dec.{ltb}
 use Rattle.model.specs.Limits.{sideLimit}
 use Rattle.model.proofs.Checks.{or-parts}
 use Rattle.file.specs.Tags.{fileLength}
-use Rattle.gauge.proofs.Cell.{cells-low, ring-low}
+use Rattle.model.proofs.Sides.{cells-low}
+use Rattle.gauge.proofs.Cell.{ring-low}
 use Rattle.file.proofs.Tags.{length-known}
 use borrow.Author.Needs.{needs}
 use Rattle.file.proofs.file_length.Statement.{statement}

@@ -6,7 +6,8 @@ use mir.Facts.{toZ-ofZ}
 use Rattle.model.specs.Gauge.{Gauge}
 use Rattle.model.specs.Bytes.{unsignedOf}
 use Rattle.model.specs.FileCalls.{gaugeOf}
-use Rattle.gauge.proofs.Cell.{cells-low, ring-low}
+use Rattle.model.proofs.Sides.{cells-low}
+use Rattle.gauge.proofs.Cell.{ring-low}
 use Rattle.file.proofs.Film.{film-put}
 use borrow.Author.Needs.{needs}
 use Rattle.file.proofs.put_film.Statement.{statement}

@@ -15,7 +15,8 @@ use Rattle.model.specs.File.{rowsOffset, columnsOffset, gaugeIn}
 use Rattle.model.proofs.Lists.{tabulate-length}
 use Rattle.checks.proofs.Chain.{passed}
 use Rattle.file.specs.Reading.{filmIn, standing}
-use Rattle.gauge.proofs.Cell.{cells-low, ring-low}
+use Rattle.model.proofs.Sides.{cells-low}
+use Rattle.gauge.proofs.Cell.{ring-low}
 use Rattle.file.proofs.Calls.{sides-low, film-whole, stand-in, decoded, film-loaded, film-refused}
 use borrow.Author.Needs.{needs}
 use Rattle.file.proofs.read_shaped.Statement.{statement}
