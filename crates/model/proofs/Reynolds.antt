@@ -23,7 +23,7 @@ use Rattle.model.specs.Coefficients.{linkOf, leftLink, rightLink, downLi
 use Rattle.model.specs.Reynolds.{pressureAt, reynolds}
 use Rattle.model.proofs.Integers.{sub-pos, sub-add, sub-sub, sub-neg, mul-sub, sub-same}
 use Rattle.model.proofs.Lists.{tabulate-at}
-use Rattle.model.proofs.Sides.{index, Inside, index-low, index-row, index-column, left-index, down-index, Linked, own-number, pull-sides}
+use Rattle.model.proofs.Sides.{index, Inside, index-low, index-row, index-column, left-index, down-index, number-at, Linked, pull-sides}
 
 -- ---- the balance of a cell, over plain numbers
 
@@ -107,7 +107,7 @@ module _ (g : Gauge) (r c : ℕ) (w : Inside (formed g) r c) where
   -- the theorem, by row and column
   reynolds-cell : (p : List ℕ) → slack (formed g) p (at g r c) ≡ reynolds g p r c
   reynolds-cell p =
-      (λ j. slackOf (diagonal-sides j) (pull-sides (formed g) p w linked j) (stored-at g (formedSource g) (pos 0) w j) (own-number (formed g) p w j))
+      (λ j. slackOf (diagonal-sides j) (pull-sides (formed g) p w linked j) (stored-at g (formedSource g) (pos 0) w j) (number-at g p w refl j))
       ∙ balance (between g r (c - 1) r c) (between g r c r (c + 1)) (between g (r - 1) c r c) (between g r c (r + 1) c)
       (pressureAt g p r c) (pressureAt g p r (c - 1)) (pressureAt g p r (c + 1)) (pressureAt g p (r - 1) c) (pressureAt g p (r + 1) c)
       (formedSource g r c)

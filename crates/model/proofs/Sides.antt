@@ -4,7 +4,7 @@ use mathlib.Core.Logic.{_↔_}
 use mathlib.Core.Bool.{Bool, true, false, cond, _&&_, false≢true}
 use mathlib.Core.List.{List, [], _∷_, _++_}
 use Prim.Native.Nat.{ℕ, _+_, _-_, _*_, _/_, _%_, _≤_, _<_}
-use native.Mathlib.Nat.{mul-le-mul, add-mul, one-mul}
+use native.Mathlib.Nat.{mul-le-mul, add-mul, one-mul, mul-zero}
 use native.Mathlib.Omega.{arith}
 use borrow.Author.Tests.{ltb-true, leb-true, lt-ltb, le-leb}
 use lib.Arith.{digits-lt, digits-div, digits-mod}
@@ -36,7 +36,7 @@ index C r c = (r - 1) * C + (c - 1)
 
 -- the test for a cell passes at cells and nowhere else
 module _ (R C r c : ℕ) where
-  pub cell-true : Cell R C r c → (leb 1 r && leb r R && leb 1 c && leb c C) ≡ true
+  cell-true : Cell R C r c → (leb 1 r && leb r R && leb 1 c && leb c C) ≡ true
   cell-true w = rw (le-leb 1 r (w .below), le-leb r R (w .above), le-leb 1 c (w .left), le-leb c C (w .right))
 
   pub true-cell : (leb 1 r && leb r R && leb 1 c && leb c C) ≡ true → Cell R C r c
@@ -68,12 +68,32 @@ module _ {R C r c : ℕ} (w : Cell R C r c) where
   pub index-column : index C r c % C ≡ c - 1
   index-column = digits-mod (r - 1) (omega arith)
 
-  -- the index of the cell before in the row, and in the column
+  -- the index of the cell before and of the next, in the row and in the column
   pub left-index : Cell R C r (c - 1) → index C r c - 1 ≡ index C r (c - 1)
   left-index v = omega arith
 
+  pub right-index : index C r c + 1 ≡ index C r (c + 1)
+  right-index = omega arith
+
   pub down-index : Cell R C (r - 1) c → index C r c - C ≡ index C (r - 1) c
   down-index v = omega (arith, row-end C (r - 1) (v .below))
+
+  pub up-index : index C r c + C ≡ index C (r + 1) c
+  up-index = let e : r + 1 - 1 ≡ r = omega arith in omega (arith, row-end C r (w .below), ap (λ (k : ℕ). k * C) e)
+
+-- a list's number for a cell; on the ring, where nothing is inside, 0
+module _ (g : Gauge) (p : List ℕ) {r c i : ℕ} where
+  pub number-at : Cell (g .rows) (g .columns) r c → i ≡ index (g .columns) r c → getD p i 0 ≡ pressureAt g p r c
+  number-at w e = rw (cell-true (g .rows) (g .columns) r c w, e)
+
+  pub number-if : (inside : Bool) → (inside ≡ true ↔ Cell (g .rows) (g .columns) r c) → (Cell (g .rows) (g .columns) r c → i ≡ index (g .columns) r c)
+      → cond inside (getD p i 0) 0 ≡ pressureAt g p r c
+  number-if true t e = number-at (t .0 refl) (e (t .0 refl))
+  number-if false t e = go (leb 1 r && leb r (g .rows) && leb 1 c && leb c (g .columns)) (λ h. t .1 (true-cell (g .rows) (g .columns) r c h))
+    where
+      go : (b : Bool) → (b ≡ true → false ≡ true) → 0 ≡ cond b (getD p (index (g .columns) r c) 0) 0
+      go true h = absurd (false≢true (h refl))
+      go false h = refl
 
 -- ---- the pull over one side of a cell, and over all four
 
@@ -109,18 +129,12 @@ module _ (f : Film) (p : List ℕ) where
   -- so if it has a link exactly where (r, c) is a cell, to that cell's index and with k as coefficient; towards the ring, 0 ≡ k * 0
   side : {r c k : ℕ} {linked : Bool} {cell link : ℕ} → (linked ≡ true ↔ Inside f r c) → (Inside f r c → (cell ≡ index (f .columns) r c) × (link ≡ k))
       → Side r c k linked cell link
-  side {r} {c} {linked = true} inside e =
-      let w = inside .0 refl in
-      record { pulls = rw (cell-true (f .rows) (f .columns) r c w, (e w) .0, (e w) .1) (omega arith) }
-  side {r} {c} {k} {linked = false} inside e =
-      record { pulls = go (leb 1 r && leb r (f .rows) && leb 1 c && leb c (f .columns)) (λ h. inside .1 (true-cell (f .rows) (f .columns) r c h)) }
-    where
-      go : (t : Bool) → (t ≡ true → false ≡ true) → 0 ≡ k * cond t (getD p (index (f .columns) r c) 0) 0
-      go true h = absurd (false≢true (h refl))
-      go false h = omega arith
-
-  pub own-number : {r c : ℕ} → Inside f r c → getD p (index (f .columns) r c) 0 ≡ numberAt r c
-  own-number {r} {c} w = rw (cell-true (f .rows) (f .columns) r c w)
+  side {r} {c} {linked = true} t e =
+      let w = t .0 refl in
+      record { pulls = rw (← number-at (gridOf f) p w ((e w) .0), (e w) .1) (omega arith) }
+  side {r} {c} {k} {linked = false} t e =
+      let none : 0 ≡ numberAt r c = number-if (gridOf f) p {r = r} {c = c} {i = 0} false t (λ w. absurd (false≢true (t .1 w))) in
+      record { pulls = sym (mul-zero k) ∙ ap (λ (n : ℕ). k * n) none }
 
   -- the pull is the sum of link × number beyond, over all four sides
   module _ {r c left right down up : ℕ} (w : Inside f r c) (l : Linked f r c left right down up) where
@@ -128,15 +142,13 @@ module _ (f : Film) (p : List ℕ) where
     left-side = side (omega (arith, ltb-true, lt-ltb)) (λ v. (left-index w v, l .left-is v))
 
     right-side : Side r (c + 1) right (ltb (c - 1 + 1) (f .columns)) (index (f .columns) r c + 1) (rightAt f (index (f .columns) r c))
-    right-side = side (omega (arith, ltb-true, lt-ltb)) (λ v. (omega arith, l .right-is v))
+    right-side = side (omega (arith, ltb-true, lt-ltb)) (λ v. (right-index w, l .right-is v))
 
     down-side : Side (r - 1) c down (ltb 0 (r - 1)) (index (f .columns) r c - f .columns) (upAt f (index (f .columns) r c - f .columns))
     down-side = side (omega (arith, ltb-true, lt-ltb)) (λ v. (down-index w v, l .down-is v))
 
     up-side : Side (r + 1) c up (ltb (r - 1 + 1) (f .rows)) (index (f .columns) r c + f .columns) (upAt f (index (f .columns) r c))
-    up-side =
-        side (omega (arith, ltb-true, lt-ltb))
-        (λ v. (let e : r + 1 - 1 ≡ r = omega arith in omega (arith, row-end (f .columns) r (w .below), ap (λ (k : ℕ). k * f .columns) e), l .up-is v))
+    up-side = side (omega (arith, ltb-true, lt-ltb)) (λ v. (up-index w, l .up-is v))
 
     pub pull-sides : pullOf f p (index (f .columns) r c)
         ≡ left * numberAt r (c - 1) + right * numberAt r (c + 1) + (down * numberAt (r - 1) c + up * numberAt (r + 1) c)
@@ -157,6 +169,6 @@ row-sum f {r} {c} {d} {left} {right} {down} {up} w e l =
     let own : d * weight r c + 0 ≡ d * weight r c = omega arith in
     let pull : pulled + 0 ≡ pulled = omega arith in
     sym
-    ((λ j. atMostZero (slackOf (e j) (pull-sides f (f .weights) w l j) (pos 0) (own-number f (f .weights) w j)))
+    ((λ j. atMostZero (slackOf (e j) (pull-sides f (f .weights) w l j) (pos 0) (number-at (gridOf f) (f .weights) w refl j)))
     ∙ slack-atMostZero d pulled (pos 0) (weight r c)
     ∙ ap₂ leb own pull)

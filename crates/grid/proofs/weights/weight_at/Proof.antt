@@ -1,21 +1,16 @@
 -- `grid::weights::weight_at` meets its contract.
+use mathlib.Core.List.{[]}
 use native.Mathlib.Omega.{arith}
 use borrow.Author.Needs.{needs}
-use Rattle.model.proofs.Sides.{true-cell}
+use denote.Ref.{now}
+use lib.IntN.{pos}
+use Rattle.model.specs.FileCalls.{gaugeOf}
+use Rattle.model.proofs.Sides.{Cell, number-at}
 use Rattle.grid.proofs.weights.weight_at.Statement.{statement}
 use Rattle.grid.proofs.weights.weight_at.Tie as tie
 
-cast-rows : tie.Need-cast-rows
-cast-rows c = search needs
-
-cast-columns : tie.Need-cast-columns
-cast-columns c = search needs
-
 index-of-requires : tie.Need-index-of-requires
-index-of-requires c κs =
-    let a = c .before .before .before .before .args in
-    let w = true-cell (a .head .rows) (a .head .columns) (a .row) (a .column) (c .if1 .taken) in
-    omega arith
+index-of-requires c κs = search needs
 
 mul-result : tie.Need-mul-result
 mul-result c = search needs
@@ -27,20 +22,11 @@ cast-result : tie.Need-cast-result
 cast-result c = record { fits = omega (arith, c .shared-slice-known2 .given (c .before .index-of .result) .fits) }
 
 returns : tie.Need-returns
-returns c = rw (c .before .index-of .ensures .0, c .before .before .if1 .taken)
-
-returns-2 : tie.Need-returns-2
-returns-2 c = rw (c .if1 .left)
+returns c =
+    let s = c .before .before .before in
+    let a = s .args in
+    let w : Cell (a .head .rows) (a .head .columns) (a .row) (a .column) = omega (arith, s .pre .1) in
+    number-at (gaugeOf (a .head) [] [] (pos 0)) (now (a .weights)) w (c .before .index-of .ensures .0)
 
 pub weight-at-spec : {M : Type 1} → statement M
-weight-at-spec =
-    tie.close
-    (tie.spec
-    cast-rows
-    cast-columns
-    index-of-requires
-    mul-result
-    shared-slice-read-result
-    cast-result
-    returns
-    returns-2)
+weight-at-spec = tie.close (tie.spec index-of-requires mul-result shared-slice-read-result cast-result returns)
