@@ -1,5 +1,3 @@
 -- Laws that the proofs of the functions, and other crates, share.
-pub mod Search
-pub mod Chain
-pub mod Rows
+pub mod Own
 pub mod Parts

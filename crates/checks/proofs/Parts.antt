@@ -9,7 +9,7 @@ use Rattle.model.specs.Film.{filmOf}
 use Rattle.model.specs.Accepted.{Sized, LimitedCell, Limited}
 use Rattle.model.specs.declared.Head.{Head}
 use Rattle.model.proofs.Lists.{tabulate-length, tabulate-at}
-use Rattle.checks.specs.Parts.{unweighted, sourceless}
+use Rattle.refusals.specs.Parts.{unweighted, sourceless}
 
 module _ {h : Head} {weights diagonals rights ups : List ℕ} {sources : List ℤ} where
   -- other weights and sources, as many

@@ -15,7 +15,7 @@ use Rattle.model.specs.File.{cells, gaugeCheck}
 use Rattle.model.specs.FileCalls.{gaugeOf, gaugeFits, WriteAnswer, written, formCheck, Forms}
 use Rattle.model.specs.declared.Head.{Head}
 use Rattle.model.proofs.Checks.{and-parts}
-use Rattle.gauge.specs.Cell.{Ringed, Room, Forming}
+use Rattle.forming.specs.Cell.{Ringed, Room, Forming}
 use Rattle.gauge.proofs.Tests.{measured-ringed, gauge-measured}
 
 -- what is filled to its end

@@ -19,14 +19,14 @@ pub fn form(
 ) -> Formed
     ensures { λ r. ⌜ Forms (gaugeOf head (now (weights .entry)) (now (thicknesses .entry)) wedge) (now (diagonals .entry)) (now (rights .entry)) (now (ups .entry)) (now (sources .entry)) (formAnswerOf r) (now (diagonals .exit)) (now (rights .exit)) (now (ups .exit)) (now (sources .exit)) ⌝ }
 {
-    let n = checks::area(head.rows, head.columns);
+    let n = refusals::area(head.rows, head.columns);
     let fits = (diagonals.len() == n)
         & (rights.len() == n)
         & (ups.len() == n)
         & (sources.len() == n);
     match gauge::gauge_tests(head, weights, thicknesses, wedge, fits) {
         Tested::Fine => {
-            gauge::form(head, thicknesses, wedge, diagonals, rights, ups, sources);
+            forming::form(head, thicknesses, wedge, diagonals, rights, ups, sources);
             Formed::Written
         }
         Tested::Refused(r) => Formed::Refused(r),

@@ -8,9 +8,9 @@ use lib.Seq.{sets}
 use Rattle.model.specs.Gauge.{Gauge}
 use Rattle.model.specs.Bytes.{long, unsignedOf}
 use Rattle.model.specs.File.{weightBytes, field, fileOf}
-use Rattle.file.specs.Tags.{Ready}
+use Rattle.fields.specs.Tags.{Ready}
 use Rattle.text.proofs.Writes.{sets-next, sets-whole}
-use Rattle.file.proofs.Stores.{weights-length}
+use Rattle.words.proofs.Stores.{weights-length}
 
 module _ (g : Gauge) (out : List ℕ) (R : Ready g out) where
   pub film-put : {l1 l2 l3 l4 l5 : List ℕ}

@@ -8,9 +8,9 @@ use Rattle.model.specs.Result.{Result, Gives}
 use Rattle.model.specs.Relaxation.{SlackAnswer}
 use Rattle.model.specs.Margin.{MarginAnswer}
 use Rattle.model.specs.FileCalls.{WriteAnswer, LoadAnswer, Loads, Forms}
-use Rattle.tell.specs.Refused.{Told}
+use Rattle.told.specs.Refused.{Told}
 use Rattle.tell.specs.Numbers.{SlackTold, MarginTold}
-use Rattle.tell.specs.Files.{LoadTold, writeTest}
+use Rattle.tell_files.specs.Files.{LoadTold, writeTest}
 use Rattle.film_c.specs.Lent.{Leaves, ReadTold, FormTold}
 
 pub slack-told : {a b : SlackAnswer} {z z′ : ℤ} {p n p′ : ℕ} → a ≡ b → SlackTold a z p n z′ p′ → SlackTold b z p n z′ p′

@@ -8,8 +8,8 @@ use Rattle.model.specs.Result.{Result}
 use Rattle.model.specs.File.{gaugeIn}
 use Rattle.model.specs.FileCalls.{WriteAnswer, LoadAnswer, Forms, Loads, writeAnswer, formCheck, loadAnswer, loadCheck}
 use Rattle.model.specs.declared.Head.{Head}
-use Rattle.tell.specs.Refused.{Told}
-use Rattle.tell.specs.Files.{LoadTold, writeTest}
+use Rattle.told.specs.Refused.{Told}
+use Rattle.tell_files.specs.Files.{LoadTold, writeTest}
 
 abbrev pub headOf : ℕ → ℕ → ℕ → Head
 headOf rows columns ceiling = record { rows = rows; columns = columns; ceiling = ceiling }

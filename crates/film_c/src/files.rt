@@ -1,8 +1,8 @@
 // The calls on film files and on a film's own numbers.
 ghost use Rattle.model.specs.FileCalls.{gaugeOf, saveCall};
 ghost use Rattle.model.specs.ReportCall.{reportCall};
-ghost use Rattle.tell.specs.Refused.{Told};
-ghost use Rattle.tell.specs.Files.{ReportTold, writeTest};
+ghost use Rattle.told.specs.Refused.{Told};
+ghost use Rattle.tell_files.specs.Files.{ReportTold, writeTest};
 ghost use Rattle.film_c.specs.Lent.{headOf, Leaves, ReadTold, FormTold};
 use model::Head;
 
@@ -17,7 +17,7 @@ pub extern "C" fn film_report(
     ensures { λ r. ⌜ Leaves (reportCall (now (file .entry)) (now (out .entry))) (λ a. ReportTold a (now (length .entry)) (now (place .entry)) r (now (length .exit)) (now (place .exit))) (now (out .exit)) ⌝ }
 {
     let answer = report::report(file, out);
-    tell::report(answer, length, place)
+    tell_files::report(answer, length, place)
 }
 
 // Reads a film file: head is rows, columns and ceiling.
@@ -33,7 +33,7 @@ pub extern "C" fn film_read(
     ensures { λ r. ⌜ ReadTold (now (file .entry)) (now (weights .entry)) (now (thicknesses .entry)) (now (head .entry)) (now (wedge .entry)) (now (place .entry)) r (now (weights .exit)) (now (thicknesses .exit)) (now (head .exit)) (now (wedge .exit)) (now (place .exit)) ⌝ }
 {
     let answer = file::read(file, weights, thicknesses);
-    tell::read(answer, head, wedge, place)
+    tell_files::read(answer, head, wedge, place)
 }
 
 // Writes a film's file.
@@ -56,7 +56,7 @@ pub extern "C" fn film_write(
         ceiling: ceiling,
     };
     let answer = file::write(head, weights, thicknesses, wedge, out);
-    tell::write(answer, place)
+    tell_files::write(answer, place)
 }
 
 // Forms the coefficients of a film.
@@ -91,5 +91,5 @@ pub extern "C" fn film_form(
         ups,
         sources,
     );
-    tell::form(answer, place)
+    tell_files::form(answer, place)
 }

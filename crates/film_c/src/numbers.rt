@@ -5,7 +5,7 @@ ghost use Rattle.model.specs.Margin.{marginCall};
 ghost use Rattle.model.specs.Proposal.{proposeCall};
 ghost use Rattle.model.specs.Estimate.{estimateCall};
 ghost use Rattle.model.specs.Run.{runCall};
-ghost use Rattle.tell.specs.Refused.{Told};
+ghost use Rattle.told.specs.Refused.{Told};
 ghost use Rattle.tell.specs.Numbers.{SlackTold, MarginTold, RelaxTold, ProposeTold, estimateTest, RunTold};
 ghost use Rattle.film_c.specs.Lent.{headOf, Leaves};
 use model::Head;

@@ -158,8 +158,8 @@ fn used(head: Head, weights: &[u16], thicknesses: &[u8], wedge: i32, file: &[u8]
     if head.columns > 32 {
         return;
     }
-    let n = checks::area(head.rows, head.columns);
-    let t = checks::area(head.rows + 2, head.columns + 2);
+    let n = refusals::area(head.rows, head.columns);
+    let t = refusals::area(head.rows + 2, head.columns + 2);
     if n > weights.len() {
         return;
     }

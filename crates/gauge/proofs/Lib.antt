@@ -1,4 +1,2 @@
 -- Laws that the proofs of the functions, and other crates, share.
-pub mod Cell
-pub mod Written
 pub mod Tests

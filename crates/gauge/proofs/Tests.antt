@@ -13,10 +13,10 @@ use Rattle.model.specs.FileCalls.{gaugeFits}
 use Rattle.model.proofs.Checks.{and-parts, orElse-parts, failIf-pass}
 use Rattle.model.proofs.Sides.{cells-low}
 use Rattle.model.proofs.File.{gauge-shape}
-use Rattle.checks.proofs.Chain.{orElse-assoc}
-use Rattle.gauge.specs.Cell.{Ringed}
+use Rattle.refusals.proofs.Chain.{orElse-assoc}
+use Rattle.forming.specs.Cell.{Ringed}
 use Rattle.gauge.specs.Tests.{sizedCheck, Measured}
-use Rattle.gauge.proofs.Cell.{ring-low}
+use Rattle.forming.proofs.Cell.{ring-low}
 
 module _ {g : Gauge} (m : Measured g) where
   pub measured-ringed : Ringed (g .rows) (g .columns) (g .thicknesses)

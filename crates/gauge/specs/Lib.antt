@@ -1,3 +1,2 @@
 -- What the contracts cite beside the model.
-pub mod Cell
 pub mod Tests

@@ -6,8 +6,7 @@
 // A refusal's place is the number's place in the film file; that of 9 is the cell, and that of 10 is 0.
 ghost use mathlib.Core.Path.{_≡_};
 ghost use mathlib.Core.Bool.{_&&_};
-ghost use mathlib.Core.List.{[]};
-ghost use Prim.Native.Nat.{_-_, _*_, _≤_};
+ghost use Prim.Native.Nat.{_≤_};
 ghost use lib.Dec.{ltb};
 ghost use lib.IntN.{natAbs};
 ghost use lib.ListN.{length};
@@ -16,15 +15,11 @@ ghost use Rattle.model.specs.Refusals.{pass, checkOf};
 ghost use Rattle.model.specs.Checks.{outside, shapeCheck, ceilingCheck};
 ghost use Rattle.model.specs.File.{rowsOffset, columnsOffset, ceilingOffset, ringed, weightsCheck, thicknessesCheck, wedgeCheck, gaugeCheck};
 ghost use Rattle.model.specs.FileCalls.{gaugeOf, gaugeFits};
-ghost use Rattle.gauge.specs.Cell.{Ringed, Room, FormedTo, Forming};
 ghost use Rattle.gauge.specs.Tests.{numbersCheck, valuesCheck, sizedCheck, Measured};
 use model::Fault;
 use model::Head;
 use model::Refusal;
 use model::Tested;
-
-mod forming; // forming.rt: one cell's coefficients
-pub mod dominance; // dominance.rt: refusal 9
 
 // The limits of model/specs/Limits.
 const SIDE_LIMIT: u32 = 32;
@@ -39,9 +34,9 @@ const WEDGE_LIMIT: u64 = 1000000000;
 pub fn shape_test(rows: u32, columns: u32) -> Tested
     ensures { λ r. ⌜ checkOf r ≡ shapeCheck rows rowsOffset columns columnsOffset ⌝ }
 {
-    checks::or_else(
-        checks::fail_if(checks::outside(rows, 1, SIDE_LIMIT), Fault::BadShape, 3),
-        checks::fail_if(checks::outside(columns, 1, SIDE_LIMIT), Fault::BadShape, 4),
+    refusals::or_else(
+        refusals::fail_if(refusals::outside(rows, 1, SIDE_LIMIT), Fault::BadShape, 3),
+        refusals::fail_if(refusals::outside(columns, 1, SIDE_LIMIT), Fault::BadShape, 4),
     )
 }
 
@@ -49,8 +44,8 @@ pub fn shape_test(rows: u32, columns: u32) -> Tested
 pub fn ceiling_test(ceiling: u32) -> Tested
     ensures { λ r. ⌜ checkOf r ≡ ceilingCheck ceiling ceilingOffset ⌝ }
 {
-    checks::fail_if(
-        checks::outside(ceiling, 1, CEILING_LIMIT),
+    refusals::fail_if(
+        refusals::outside(ceiling, 1, CEILING_LIMIT),
         Fault::BadCeiling,
         8,
     )
@@ -78,7 +73,7 @@ pub fn weights_test(weights: &[u16]) -> Tested
 fn bad_thickness(thickness: u8) -> bool
     ensures { λ r. ⌜ r ≡ outside thickness 1 thicknessLimit ⌝ }
 {
-    checks::outside(thickness as u32, 1, THICKNESS_LIMIT)
+    refusals::outside(thickness as u32, 1, THICKNESS_LIMIT)
 }
 
 // Refusal 7, at the lowest place, of a film of n cells.
@@ -111,70 +106,7 @@ fn far_wedge(wedge: i32) -> bool
 pub fn wedge_test(wedge: i32, place: usize) -> Tested
     ensures { λ r. ⌜ checkOf r ≡ wedgeCheck wedge place ⌝ }
 {
-    checks::fail_if(far_wedge(wedge), Fault::BadWedge, place)
-}
-
-// Writes the coefficients of a row's cells into their places in four slices, where those of the rows before stand already.
-fn form_row(
-    head: Head,
-    thicknesses: &[u8],
-    wedge: i32,
-    row: usize,
-    diagonals: &mut [u32],
-    rights: &mut [u32],
-    ups: &mut [u32],
-    sources: &mut [i64],
-)
-    requires { ⌜ Ringed (head .rows) (head .columns) (now thicknesses) × (1 ≤ row) × (row ≤ head .rows) ⌝ }
-    requires { ⌜ Room (head .rows * head .columns) (now diagonals) (now rights) (now ups) (now sources) ⌝ }
-    requires { ⌜ FormedTo ((row - 1) * head .columns) (gaugeOf head [] (now thicknesses) wedge) (now diagonals) (now rights) (now ups) (now sources) ⌝ }
-    ensures { λ r. ⌜ FormedTo (row * head .columns) (gaugeOf head [] (now (thicknesses .entry)) wedge) (now (diagonals .exit)) (now (rights .exit)) (now (ups .exit)) (now (sources .exit)) ⌝ }
-{
-    let columns = head.columns as usize;
-    let first = (row - 1) * columns;
-    let mut i = 0;
-    while i < columns {
-        let cell = forming::coefficients_at(head, thicknesses, wedge, row, i + 1);
-        let source = cell.source;
-        let at = first + i;
-        diagonals[at] = cell.diagonal;
-        rights[at] = cell.right;
-        ups[at] = cell.up;
-        sources[at] = source;
-        i += 1;
-    }
-}
-
-// Writes the coefficients of a film's cells into the first N places of four slices, row by row: no cell needs a division for its row
-// and column.
-pub fn form(
-    head: Head,
-    thicknesses: &[u8],
-    wedge: i32,
-    diagonals: &mut [u32],
-    rights: &mut [u32],
-    ups: &mut [u32],
-    sources: &mut [i64],
-)
-    requires { ⌜ Ringed (head .rows) (head .columns) (now thicknesses) ⌝ }
-    requires { ⌜ Room (head .rows * head .columns) (now diagonals) (now rights) (now ups) (now sources) ⌝ }
-    ensures { λ r. ⌜ Forming (gaugeOf head [] (now (thicknesses .entry)) wedge) (now (diagonals .exit)) (now (rights .exit)) (now (ups .exit)) (now (sources .exit)) ⌝ }
-{
-    let rows = head.rows as usize;
-    let mut row = 0;
-    while row < rows {
-        row += 1;
-        form_row(
-            head,
-            thicknesses,
-            wedge,
-            row,
-            diagonals,
-            rights,
-            ups,
-            sources,
-        );
-    }
+    refusals::fail_if(far_wedge(wedge), Fault::BadWedge, place)
 }
 
 // The number of thicknesses: a ring lies around the grid.
@@ -182,7 +114,7 @@ fn ring(rows: u32, columns: u32) -> usize
     requires { ⌜ (rows ≤ 32) × (columns ≤ 32) ⌝ }
     ensures { λ r. ⌜ r ≡ ringed rows columns ⌝ }
 {
-    checks::area(rows + 2, columns + 2)
+    refusals::area(rows + 2, columns + 2)
 }
 
 // Refusals 5, 6, 7 and 8, of a film whose shape and lengths have passed.
@@ -195,9 +127,9 @@ fn number_tests(head: Head, weights: &[u16], thicknesses: &[u8], wedge: i32) -> 
     let weight = weights_test(weights);
     let thickness = thicknesses_test(thicknesses, n);
     let wedge_found = wedge_test(wedge, 21 + 2 * n + thicknesses.len());
-    checks::or_else(
+    refusals::or_else(
         ceiling,
-        checks::or_else(weight, checks::or_else(thickness, wedge_found)),
+        refusals::or_else(weight, refusals::or_else(thickness, wedge_found)),
     )
 }
 
@@ -207,7 +139,7 @@ fn value_tests(head: Head, weights: &[u16], thicknesses: &[u8], wedge: i32) -> T
     ensures { λ r. ⌜ checkOf r ≡ valuesCheck (gaugeOf head (now (weights .entry)) (now (thicknesses .entry)) wedge) ⌝ }
 {
     match number_tests(head, weights, thicknesses, wedge) {
-        Tested::Fine => dominance::dominance_test(head, weights, thicknesses),
+        Tested::Fine => row_sums::dominance_test(head, weights, thicknesses),
         Tested::Refused(r) => Tested::Refused(r),
     }
 }
@@ -217,9 +149,9 @@ fn sized_tests(head: Head, weights: &[u16], thicknesses: &[u8], wedge: i32, fits
     requires { ⌜ shapeCheck (head .rows) rowsOffset (head .columns) columnsOffset ≡ pass ⌝ }
     ensures { λ r. ⌜ checkOf r ≡ sizedCheck (gaugeOf head (now (weights .entry)) (now (thicknesses .entry)) wedge) fits ⌝ }
 {
-    let whole = (weights.len() == checks::area(head.rows, head.columns))
+    let whole = (weights.len() == refusals::area(head.rows, head.columns))
         & (thicknesses.len() == ring(head.rows, head.columns));
-    match checks::fail_if(!(whole & fits), Fault::WrongBuffer, 0) {
+    match refusals::fail_if(!(whole & fits), Fault::WrongBuffer, 0) {
         Tested::Fine => value_tests(head, weights, thicknesses, wedge),
         Tested::Refused(r) => Tested::Refused(r),
     }

@@ -3,4 +3,3 @@ pub mod Pull
 pub mod Neighbours
 pub mod Limited
 pub mod Fill
-pub mod Append

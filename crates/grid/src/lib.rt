@@ -14,7 +14,6 @@ ghost use Rattle.grid.specs.Pull.{Links, backOf, aheadOf, Product, pullB
 use cell::Cell;
 use model::Head;
 
-pub mod order; // order.rt: the table of an ordering
 pub mod weights; // weights.rt: a cell's weight, and what those beside it pull
 
 // The index of cell (row, column), which run from 1.

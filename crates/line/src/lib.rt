@@ -40,7 +40,7 @@ pub fn propose(
 ) -> Proposed
     ensures { λ r. ⌜ Gives (proposeCall (filmOf head (now (weights .entry)) (now (diagonals .entry)) (now (rights .entry)) (now (ups .entry)) (now (sources .entry))) line (now (proposal .entry)) (now (field .entry))) (proposalAnswerOf r) (now (field .exit)) ⌝ }
 {
-    let place = checks::line_test(head, line);
+    let place = refusals::line_test(head, line);
     let fits = proposal.len() == head.columns as usize;
     match checks::field_tests(
         head,
@@ -102,7 +102,7 @@ pub fn estimate(
 ) -> Estimated
     ensures { λ r. ⌜ Gives (estimateCall (filmOf head (now (weights .entry)) (now (diagonals .entry)) (now (rights .entry)) (now (ups .entry)) (now (sources .entry))) line (now (field .entry)) (now (proposal .entry))) (estimateAnswerOf r) (now (proposal .exit)) ⌝ }
 {
-    let place = checks::line_test(head, line);
+    let place = refusals::line_test(head, line);
     let room = proposal.len() == head.columns as usize;
     match checks::field_tests(
         head,

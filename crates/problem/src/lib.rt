@@ -56,7 +56,7 @@ pub fn relax(
 ) -> Relaxed
     ensures { λ r. ⌜ Gives (relaxCall (filmOf head (now (weights .entry)) (now (diagonals .entry)) (now (rights .entry)) (now (ups .entry)) (now (sources .entry))) (now (field .entry)) at) (relaxAnswerOf r) (now (field .exit)) ⌝ }
 {
-    let place = checks::cell_test(head, at);
+    let place = refusals::cell_test(head, at);
     match checks::field_tests(
         head,
         weights,
@@ -87,7 +87,7 @@ pub fn slack(
 ) -> Slack
     ensures { λ r. ⌜ slackAnswerOf r ≡ slackCall (filmOf head (now (weights .entry)) (now (diagonals .entry)) (now (rights .entry)) (now (ups .entry)) (now (sources .entry))) (now (field .entry)) at ⌝ }
 {
-    let inside = checks::cell_test(head, at);
+    let inside = refusals::cell_test(head, at);
     match checks::field_tests(
         head,
         weights,

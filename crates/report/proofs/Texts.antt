@@ -30,7 +30,7 @@ use Rattle.model.proofs.File.{read-values}
 use Rattle.model.proofs.Forming.{field-accepted}
 use Rattle.model.proofs.Report.{report-fits}
 use Rattle.file.proofs.Inverse.{used, read-film, read-refusal}
-use Rattle.gauge.specs.Cell.{Forming}
+use Rattle.forming.specs.Cell.{Forming}
 use Rattle.text.specs.Writes.{Fits, Writes}
 use Rattle.text.proofs.Writes.{sets-front}
 use Rattle.render.specs.Answer.{Inside}

@@ -88,7 +88,7 @@ fn put_film(head: Head, weights: &[u16], thicknesses: &[u8], wedge: i32, out: &m
     let mut ups = [0u32; 1024];
     let mut sources = [0i64; 1024];
     let mut field = [0u32; 1024];
-    gauge::form(
+    forming::form(
         head,
         thicknesses,
         wedge,
@@ -118,8 +118,8 @@ fn put_report(file: &[u8], out: &mut [u8]) -> usize
     let mut thicknesses = [0u8; 1156];
     match file::read(file, &mut weights, &mut thicknesses) {
         Loaded::Film(head, wedge) => {
-            let n = checks::area(head.rows, head.columns);
-            let t = checks::area(head.rows + 2, head.columns + 2);
+            let n = refusals::area(head.rows, head.columns);
+            let t = refusals::area(head.rows + 2, head.columns + 2);
             put_film(head, &weights[..n], &thicknesses[..t], wedge, out)
         }
         Loaded::Refused(r) => render::put_refused(r, out, 0),

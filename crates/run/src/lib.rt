@@ -68,7 +68,7 @@ fn relaxations(
     let n = field.len();
     let columns = head.columns as usize;
     let mut table = [0u16; 1024];
-    grid::order::fill_order(order, columns, n, &mut table);
+    order::fill_order(order, columns, n, &mut table);
     let swept = sweep::sweep(
         diagonals,
         rights,
@@ -223,7 +223,7 @@ pub fn run(
 ) -> Ran
     ensures { λ r. ⌜ Gives (runCall (filmOf head (now (weights .entry)) (now (diagonals .entry)) (now (rights .entry)) (now (ups .entry)) (now (sources .entry))) budget order proposals (now (field .entry))) (runAnswerOf r) (now (field .exit)) ⌝ }
 {
-    let ordered = checks::order_test(order);
+    let ordered = refusals::order_test(order);
     match checks::field_tests(
         head,
         weights,

@@ -1,4 +1,2 @@
 -- What the numbers that a caller in C is told say of a call's answer.
-pub mod Refused
 pub mod Numbers
-pub mod Files

@@ -10,7 +10,7 @@ use Rattle.model.specs.Proposal.{ProposalAnswer}
 use Rattle.model.specs.Estimate.{EstimateAnswer}
 use Rattle.model.specs.Run.{RunAnswer}
 use Rattle.model.specs.declared.Counts.{Counts}
-use Rattle.tell.specs.Refused.{Told}
+use Rattle.told.specs.Refused.{Told}
 
 abbrev pub slackTest : SlackAnswer → Check
 slackTest (SlackAnswer.is z) = pass

@@ -2,37 +2,19 @@
 //
 // Proved: the returned number is 0 or the refusal's, and each lent number and array holds what specs/ says of the answer. A refusal
 // writes its place and nothing else; an answer leaves the place as it was.
-ghost use Rattle.model.specs.Refusals.{fail, numberOf};
 ghost use Rattle.model.specs.Relaxation.{relaxAnswerOf, slackAnswerOf};
 ghost use Rattle.model.specs.Margin.{marginAnswerOf};
 ghost use Rattle.model.specs.Proposal.{proposalAnswerOf};
 ghost use Rattle.model.specs.Estimate.{estimateAnswerOf};
 ghost use Rattle.model.specs.Run.{runAnswerOf};
-ghost use Rattle.model.specs.FileCalls.{loadAnswerOf, saveAnswerOf, formAnswerOf};
-ghost use Rattle.model.specs.ReportCall.{reportAnswerOf};
-ghost use Rattle.tell.specs.Refused.{Told};
+ghost use Rattle.told.specs.Refused.{Told};
 ghost use Rattle.tell.specs.Numbers.{SlackTold, MarginTold, RelaxTold, ProposeTold, estimateTest, RunTold};
-ghost use Rattle.tell.specs.Files.{ReportTold, LoadTold, writeTest};
 use model::Estimated;
-use model::Formed;
-use model::Loaded;
 use model::Margin;
 use model::Proposed;
 use model::Ran;
-use model::Refusal;
 use model::Relaxed;
-use model::Reported;
-use model::Saved;
 use model::Slack;
-
-// A refusal: its place is written, and its number answered.
-fn refused(refusal: Refusal, place: &mut usize) -> u32
-    ensures { λ r. ⌜ Told (fail (numberOf (refusal .fault)) (refusal .place)) (now (place .entry)) r (now (place .exit)) ⌝ }
-{
-    let fault = refusal.fault;
-    *place = refusal.place;
-    render::number_of(fault) as u32
-}
 
 // A cell's slack.
 pub fn slack(answer: Slack, value: &mut i64, place: &mut usize) -> u32
@@ -43,7 +25,7 @@ pub fn slack(answer: Slack, value: &mut i64, place: &mut usize) -> u32
             *value = z;
             0
         }
-        Slack::Refused(r) => refused(r, place),
+        Slack::Refused(r) => told::refused(r, place),
     }
 }
 
@@ -56,7 +38,7 @@ pub fn margin(answer: Margin, value: &mut u32, place: &mut usize) -> u32
             *value = k;
             0
         }
-        Margin::Refused(r) => refused(r, place),
+        Margin::Refused(r) => told::refused(r, place),
     }
 }
 
@@ -78,7 +60,7 @@ pub fn run(answer: Ran, result: &mut [u32; 4], cell: &mut usize, place: &mut usi
             *cell = at;
             0
         }
-        Ran::Refused(r) => refused(r, place),
+        Ran::Refused(r) => told::refused(r, place),
     }
 }
 
@@ -99,7 +81,7 @@ pub fn relax(answer: Relaxed, result: &mut [u32; 2], place: &mut usize) -> u32
             *result = [2, 0];
             0
         }
-        Relaxed::Refused(r) => refused(r, place),
+        Relaxed::Refused(r) => told::refused(r, place),
     }
 }
 
@@ -116,7 +98,7 @@ pub fn propose(answer: Proposed, result: &mut [u32; 2], place: &mut usize) -> u3
             *result = [0, 0];
             0
         }
-        Proposed::Refused(r) => refused(r, place),
+        Proposed::Refused(r) => told::refused(r, place),
     }
 }
 
@@ -126,53 +108,6 @@ pub fn estimate(answer: Estimated, place: &mut usize) -> u32
 {
     match answer {
         Estimated::Written => 0,
-        Estimated::Refused(r) => refused(r, place),
-    }
-}
-
-// A report, which is in its own slice: its length.
-pub fn report(answer: Reported, length: &mut usize, place: &mut usize) -> u32
-    ensures { λ r. ⌜ ReportTold (reportAnswerOf answer) (now (length .entry)) (now (place .entry)) r (now (length .exit)) (now (place .exit)) ⌝ }
-{
-    match answer {
-        Reported::Written(n) => {
-            *length = n;
-            0
-        }
-        Reported::Refused(r) => refused(r, place),
-    }
-}
-
-// A film that was read, whose weights and thicknesses are in their own slices: its shape, ceiling and wedge.
-pub fn read(answer: Loaded, head: &mut [u32; 3], wedge: &mut i32, place: &mut usize) -> u32
-    ensures { λ r. ⌜ LoadTold (loadAnswerOf answer) (now (head .entry)) (now (wedge .entry)) (now (place .entry)) r (now (head .exit)) (now (wedge .exit)) (now (place .exit)) ⌝ }
-{
-    match answer {
-        Loaded::Film(h, w) => {
-            *head = [h.rows, h.columns, h.ceiling];
-            *wedge = w;
-            0
-        }
-        Loaded::Refused(r) => refused(r, place),
-    }
-}
-
-// A file that was written, which is in its own slice.
-pub fn write(answer: Saved, place: &mut usize) -> u32
-    ensures { λ r. ⌜ Told (writeTest (saveAnswerOf answer)) (now (place .entry)) r (now (place .exit)) ⌝ }
-{
-    match answer {
-        Saved::Written => 0,
-        Saved::Refused(r) => refused(r, place),
-    }
-}
-
-// Formed coefficients, which are in their own slices.
-pub fn form(answer: Formed, place: &mut usize) -> u32
-    ensures { λ r. ⌜ Told (writeTest (formAnswerOf answer)) (now (place .entry)) r (now (place .exit)) ⌝ }
-{
-    match answer {
-        Formed::Written => 0,
-        Formed::Refused(r) => refused(r, place),
+        Estimated::Refused(r) => told::refused(r, place),
     }
 }

@@ -3,7 +3,7 @@ use borrow.Author.Needs.{needs}
 use denote.Ref.{now}
 use Rattle.model.specs.Refusals.{checkOf}
 use Rattle.model.specs.Film.{filmOf}
-use Rattle.checks.proofs.Chain.{field-own}
+use Rattle.checks.proofs.Own.{field-own}
 use Rattle.checks.proofs.field_tests.Statement.{statement}
 use Rattle.checks.proofs.field_tests.Tie as tie
 

@@ -6,7 +6,7 @@ use Rattle.model.specs.Refusals.{checkOf}
 use Rattle.model.specs.Film.{Film, filmOf}
 use Rattle.model.specs.Checks.{filmFits, sizeCheck}
 use Rattle.model.proofs.Checks.{size-passes}
-use Rattle.checks.proofs.Chain.{passed, goes-on, refuses}
+use Rattle.refusals.proofs.Chain.{passed, goes-on, refuses}
 use Rattle.checks.proofs.film_tests.Statement.{statement}
 use Rattle.checks.proofs.film_tests.Tie as tie
 

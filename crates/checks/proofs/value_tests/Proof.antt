@@ -6,7 +6,7 @@ use Rattle.model.specs.Refusals.{checkOf}
 use Rattle.model.specs.Film.{Film, filmOf, beside, across, neighbours}
 use Rattle.model.specs.Checks.{badCoefficient, zeroWeight, notDominant, coefficientCheck, weightCheck, dominanceCheck}
 use Rattle.model.proofs.Checks.{coefficient-passes}
-use Rattle.checks.proofs.Chain.{joined, passed, goes-on, refuses}
+use Rattle.refusals.proofs.Chain.{joined, passed, goes-on, refuses}
 use Rattle.checks.proofs.Parts.{sized-unweighted, limited-sourceless}
 use Rattle.checks.proofs.value_tests.Statement.{statement}
 use Rattle.checks.proofs.value_tests.Tie as tie

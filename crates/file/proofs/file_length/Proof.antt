@@ -6,10 +6,10 @@ use borrow.Author.Tests.{ltb-false}
 use lib.Dec.{ltb}
 use Rattle.model.specs.Limits.{sideLimit}
 use Rattle.model.proofs.Checks.{or-parts}
-use Rattle.file.specs.Tags.{fileLength}
+use Rattle.fields.specs.Tags.{fileLength}
 use Rattle.model.proofs.Sides.{cells-low}
-use Rattle.gauge.proofs.Cell.{ring-low}
-use Rattle.file.proofs.Tags.{length-known}
+use Rattle.forming.proofs.Cell.{ring-low}
+use Rattle.fields.proofs.Tags.{length-known}
 use borrow.Author.Needs.{needs}
 use Rattle.file.proofs.file_length.Statement.{statement}
 use Rattle.file.proofs.file_length.Tie as tie

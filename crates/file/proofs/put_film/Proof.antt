@@ -7,7 +7,7 @@ use Rattle.model.specs.Gauge.{Gauge}
 use Rattle.model.specs.Bytes.{unsignedOf}
 use Rattle.model.specs.FileCalls.{gaugeOf}
 use Rattle.model.proofs.Sides.{cells-low}
-use Rattle.gauge.proofs.Cell.{ring-low}
+use Rattle.forming.proofs.Cell.{ring-low}
 use Rattle.file.proofs.Film.{film-put}
 use borrow.Author.Needs.{needs}
 use Rattle.file.proofs.put_film.Statement.{statement}

@@ -2,8 +2,8 @@
 use mathlib.Core.Path.{_≡_, sym, ap, _∙_}
 use denote.Ref.{now}
 use Rattle.model.specs.Refusals.{checkOf}
-use Rattle.checks.proofs.Chain.{joined, passed}
-use Rattle.file.proofs.Calls.{opening, opening-passes, load-opened, load-refused}
+use Rattle.refusals.proofs.Chain.{joined, passed}
+use Rattle.file_tests.proofs.Calls.{opening, opening-passes, load-opened, load-refused}
 use borrow.Author.Needs.{needs}
 use Rattle.file.proofs.read.Statement.{statement}
 use Rattle.file.proofs.read.Tie as tie

@@ -13,11 +13,11 @@ use Rattle.model.specs.Gauge.{Gauge}
 use Rattle.model.specs.Bytes.{signedOf}
 use Rattle.model.specs.File.{rowsOffset, columnsOffset, gaugeIn}
 use Rattle.model.proofs.Lists.{tabulate-length}
-use Rattle.checks.proofs.Chain.{passed}
-use Rattle.file.specs.Reading.{filmIn, standing}
+use Rattle.refusals.proofs.Chain.{passed}
+use Rattle.file_tests.specs.Reading.{filmIn, standing}
 use Rattle.model.proofs.Sides.{cells-low}
-use Rattle.gauge.proofs.Cell.{ring-low}
-use Rattle.file.proofs.Calls.{sides-low, film-whole, stand-in, decoded, film-loaded, film-refused}
+use Rattle.forming.proofs.Cell.{ring-low}
+use Rattle.file_tests.proofs.Calls.{sides-low, film-whole, stand-in, decoded, film-loaded, film-refused}
 use borrow.Author.Needs.{needs}
 use Rattle.file.proofs.read_shaped.Statement.{statement}
 use Rattle.file.proofs.read_shaped.Tie as tie

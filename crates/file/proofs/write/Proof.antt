@@ -5,8 +5,8 @@ use mir.Facts.{toZ-ofZ}
 use Rattle.model.specs.Refusals.{checkOf}
 use Rattle.model.specs.Gauge.{Gauge}
 use Rattle.model.specs.FileCalls.{gaugeOf, saveCheck}
-use Rattle.checks.proofs.Chain.{passed}
-use Rattle.file.proofs.Calls.{save-fits, save-ready, save-passed, save-refused}
+use Rattle.refusals.proofs.Chain.{passed}
+use Rattle.file_tests.proofs.Calls.{save-fits, save-ready, save-passed, save-refused}
 use borrow.Author.Needs.{needs}
 use Rattle.file.proofs.write.Statement.{statement}
 use Rattle.file.proofs.write.Tie as tie

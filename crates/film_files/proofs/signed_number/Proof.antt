@@ -1,6 +1,6 @@
 -- `film_files::signed_number` meets its contract.
 use borrow.Author.Needs.{needs}
-use Rattle.gauge.proofs.Cell.{widens}
+use Rattle.forming.proofs.Cell.{widens}
 use Rattle.film_files.proofs.signed_number.Statement.{statement}
 use Rattle.film_files.proofs.signed_number.Tie as tie
 

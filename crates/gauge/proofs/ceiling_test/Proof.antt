@@ -10,7 +10,7 @@ fail-if-requires : tie.Need-fail-if-requires
 fail-if-requires c κs = search needs
 
 returns : tie.Need-returns
-returns c = cc
+returns c = rw (c .before .outside .ensures) at (c .fail-if .ensures)
 
 pub ceiling-test-spec : {M : Type 1} → statement M
 ceiling-test-spec = tie.close (tie.spec outside-requires fail-if-requires returns)

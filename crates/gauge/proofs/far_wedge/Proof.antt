@@ -6,7 +6,7 @@ use lib.Dec.{ltb}
 use lib.IntN.{ℤ, pos, negsuc, natAbs}
 use Rattle.model.specs.Limits.{wedgeLimit}
 use Rattle.model.specs.Integers.{lift, drop}
-use Rattle.gauge.proofs.Cell.{widens, widened}
+use Rattle.forming.proofs.Cell.{widens, widened}
 use Rattle.gauge.proofs.far_wedge.Statement.{statement}
 use Rattle.gauge.proofs.far_wedge.Tie as tie
 

@@ -4,7 +4,7 @@ use mir.Facts.{toZ-ofZ}
 use Rattle.model.specs.Gauge.{Gauge}
 use Rattle.model.specs.FileCalls.{gaugeOf}
 use Rattle.gauge.proofs.Tests.{gauge-parts}
-use Rattle.checks.proofs.Chain.{passed, goes-on, refuses}
+use Rattle.refusals.proofs.Chain.{passed, goes-on, refuses}
 use borrow.Author.Needs.{needs}
 use Rattle.gauge.proofs.gauge_tests.Statement.{statement}
 use Rattle.gauge.proofs.gauge_tests.Tie as tie

@@ -1,5 +1,5 @@
 -- `gauge::number_tests` meets its contract.
-use Rattle.checks.proofs.Chain.{joined}
+use Rattle.refusals.proofs.Chain.{joined}
 use Rattle.gauge.proofs.Tests.{weights-low, thicknesses-low}
 use mir.Facts.{toZ-ofZ}
 use borrow.Author.Needs.{needs}

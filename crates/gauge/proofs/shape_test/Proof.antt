@@ -19,7 +19,13 @@ or-else-requires : tie.Need-or-else-requires
 or-else-requires c κs = search needs
 
 returns : tie.Need-returns
-returns c = cc
+returns c =
+    rw (
+      c .before .fail-if2 .ensures,
+      c .before .before .outside2 .ensures,
+      c .before .before .before .fail-if .ensures,
+      c .before .before .before .before .outside .ensures,
+    ) at (c .or-else .ensures)
 
 pub shape-test-spec : {M : Type 1} → statement M
 shape-test-spec =

@@ -9,7 +9,7 @@ use Rattle.model.specs.FileCalls.{gaugeOf, gaugeFits}
 use Rattle.model.proofs.Checks.{failIf-pass}
 use native.Mathlib.Omega.{arith}
 use mathlib.Core.Path.{_≡_}
-use Rattle.checks.proofs.Chain.{passed, goes-on, refuses}
+use Rattle.refusals.proofs.Chain.{passed, goes-on, refuses}
 use Rattle.model.proofs.File.{gauge-shape}
 use Rattle.gauge.proofs.Tests.{lengths-pass}
 use borrow.Author.Needs.{needs}

@@ -5,7 +5,7 @@ use lib.ListN.{length, getD}
 use Rattle.model.specs.Limits.{thicknessLimit}
 use Rattle.model.specs.Checks.{outside}
 use Rattle.model.specs.File.{thicknessOffset}
-use Rattle.checks.proofs.Search.{Searched, search-begins, search-next, search-fails, search-passes}
+use Rattle.refusals.proofs.Search.{Searched, search-begins, search-next, search-fails, search-passes}
 use Rattle.gauge.proofs.thicknesses_test.Statement.{statement}
 use Rattle.gauge.proofs.thicknesses_test.Tie as tie
 

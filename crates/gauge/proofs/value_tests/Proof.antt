@@ -6,7 +6,7 @@ use Rattle.model.specs.Refusals.{checkOf}
 use Rattle.model.specs.Gauge.{Gauge}
 use Rattle.model.specs.FileCalls.{gaugeOf}
 use Rattle.gauge.specs.Tests.{numbersCheck}
-use Rattle.checks.proofs.Chain.{goes-on, refuses}
+use Rattle.refusals.proofs.Chain.{goes-on, refuses}
 use Rattle.gauge.proofs.Tests.{measured-ringed}
 use borrow.Author.Needs.{needs}
 use Rattle.gauge.proofs.value_tests.Statement.{statement}

@@ -6,7 +6,7 @@ use borrow.Author.Tests.{eq-eqb, ne-eqb}
 use lib.Dec.{eqb}
 use lib.ListN.{length, getD}
 use Rattle.model.specs.File.{weightOffset}
-use Rattle.checks.proofs.Search.{Searched, search-begins, search-next, search-fails, search-passes}
+use Rattle.refusals.proofs.Search.{Searched, search-begins, search-next, search-fails, search-passes}
 use Rattle.gauge.proofs.weights_test.Statement.{statement}
 use Rattle.gauge.proofs.weights_test.Tie as tie
 

@@ -7,7 +7,7 @@ use Rattle.model.specs.Refusals.{pass, checkOf}
 use Rattle.model.specs.Film.{Film, filmOf}
 use Rattle.model.specs.Checks.{filmCheck}
 use Rattle.model.proofs.Checks.{check-passes}
-use Rattle.checks.proofs.Chain.{film-own}
+use Rattle.checks.proofs.Own.{film-own}
 use Rattle.line.proofs.Calls.{margin-passed, margin-refused}
 use Rattle.line.proofs.margin.Statement.{statement}
 use Rattle.line.proofs.margin.Tie as tie

@@ -18,7 +18,7 @@ use Rattle.model.specs.FileCalls.{gaugeOf, loadAnswerOf, Loads}
 use Rattle.model.specs.Report.{refusedLine, filmReport, reportOf}
 use Rattle.model.proofs.File.{Shaped, gauge-passes, gauge-shape}
 use Rattle.model.proofs.Sides.{cells-low}
-use Rattle.gauge.proofs.Cell.{ring-low}
+use Rattle.forming.proofs.Cell.{ring-low}
 use Rattle.file.proofs.Inverse.{used}
 use Rattle.text.specs.Writes.{Fits, Writes}
 use Rattle.report.proofs.Texts.{Read, read-report, refusal-report}

@@ -1,3 +1,0 @@
--- What the contracts cite beside the model.
-pub mod Tags
-pub mod Reading

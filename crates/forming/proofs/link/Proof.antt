@@ -1,0 +1,21 @@
+-- `forming::link` meets its contract.
+use native.Mathlib.Omega.{arith}
+use borrow.Author.Needs.{needs}
+use Rattle.forming.proofs.Cell.{square-low, link-low}
+use Rattle.forming.proofs.link.Statement.{statement}
+use Rattle.forming.proofs.link.Tie as tie
+
+add-sum : tie.Need-add-sum
+add-sum c = search needs
+
+mul-result : tie.Need-mul-result
+mul-result c = record { fits = omega (arith, square-low (c .args .a) (c .args .b) (omega arith) (omega arith)) }
+
+mul-result-2 : tie.Need-mul-result-2
+mul-result-2 c = record { fits = omega (arith, link-low (c .args .a) (c .args .b) (omega arith) (omega arith)) }
+
+returns : tie.Need-returns
+returns c = search needs
+
+pub link-spec : {M : Type 1} → statement M
+link-spec = tie.close (tie.spec add-sum mul-result mul-result-2 returns)

@@ -1,0 +1,82 @@
+-- The coefficients of one cell, from the thicknesses of the cell and of the four beside it; and the lists that they fill.
+use mathlib.Core.Path.{_≡_}
+use mathlib.Core.Bool.{Bool, cond}
+use mathlib.Core.List.{List}
+use Prim.Native.Nat.{ℕ, _+_, _-_, _≤_}
+use lib.Dec.{ltb}
+use lib.IntN.{ℤ, pos, _-ℤ_, _*ℤ_}
+use lib.ListN.{length, take}
+use Rattle.model.specs.Limits.{sideLimit}
+use Rattle.model.specs.Lists.{tabulate}
+use Rattle.model.specs.Gauge.{Gauge, thicknessAt}
+use Rattle.model.specs.Coefficients.{linkOf, formedDiagonal, formedRight, formedUp, formedSource, byCell}
+use Rattle.model.specs.File.{cells, ringed}
+use Rattle.forming.specs.declared.Around.{Around}
+use Rattle.forming.specs.declared.Links.{Links}
+use Rattle.forming.specs.declared.Coefficients.{Coefficients}
+
+-- wedge × (thickness of the next column − thickness of the one before)
+abbrev pub sourceOf : ℤ → ℕ → ℕ → ℤ
+sourceOf wedge next last = wedge *ℤ (pos next -ℤ pos last)
+
+-- the four links, and their sum
+abbrev pub linksOf : Around → Links
+linksOf a =
+    record {
+      left = linkOf (a .own) (a .left);
+      right = linkOf (a .own) (a .right);
+      down = linkOf (a .own) (a .down);
+      up = linkOf (a .own) (a .up);
+      sum = linkOf (a .own) (a .left) + linkOf (a .own) (a .right) + linkOf (a .own) (a .down) + linkOf (a .own) (a .up);
+    }
+
+-- a link is counted if it stays in the grid
+abbrev pub coefficientsOf : Around → ℤ → Bool → Bool → Coefficients
+coefficientsOf a wedge inRow inColumn =
+    record {
+      diagonal = linksOf a .sum;
+      right = cond inRow (linksOf a .right) 0;
+      up = cond inColumn (linksOf a .up) 0;
+      source = sourceOf wedge (a .right) (a .left);
+    }
+
+-- the thicknesses at and around the cell in row r and column c, which run from 1
+abbrev pub aroundOf : Gauge → ℕ → ℕ → Around
+aroundOf g r c =
+    record {
+      own = thicknessAt g r c;
+      left = thicknessAt g r (c - 1);
+      right = thicknessAt g r (c + 1);
+      down = thicknessAt g (r - 1) c;
+      up = thicknessAt g (r + 1) c;
+    }
+
+-- the coefficients of cell (r, c)
+abbrev pub coefficientsAt : Gauge → ℕ → ℕ → Coefficients
+coefficientsAt g r c = coefficientsOf (aroundOf g r c) (g .wedge) (ltb c (g .columns)) (ltb r (g .rows))
+
+-- a shape that has passed its test, with a thickness for each place of the grid and its ring
+pub record Ringed (rows columns : ℕ) (thicknesses : List ℕ) : Type 0 where
+  pub rows-some : 1 ≤ rows
+  pub rows-low : rows ≤ sideLimit
+  pub columns-some : 1 ≤ columns
+  pub columns-low : columns ≤ sideLimit
+  pub thicknesses-len : length thicknesses ≡ ringed rows columns
+
+-- there is room for n numbers in each of the four lists
+pub record Room (n : ℕ) (diagonals rights ups : List ℕ) (sources : List ℤ) : Type 0 where
+  pub diagonals-room : n ≤ length diagonals
+  pub rights-room : n ≤ length rights
+  pub ups-room : n ≤ length ups
+  pub sources-room : n ≤ length sources
+
+-- the four lists begin with the coefficients of a film's first n cells
+pub record FormedTo (n : ℕ) (g : Gauge) (diagonals rights ups : List ℕ) (sources : List ℤ) : Type 0 where
+  pub diagonals-are : take n diagonals ≡ tabulate n (byCell g (formedDiagonal g))
+  pub rights-are : take n rights ≡ tabulate n (byCell g (formedRight g))
+  pub ups-are : take n ups ≡ tabulate n (byCell g (formedUp g))
+  pub sources-are : take n sources ≡ tabulate n (byCell g (formedSource g))
+
+-- with those of all its cells
+abbrev pub Forming : Gauge → List ℕ → List ℕ → List ℕ → List ℤ → Type 0
+Forming g diagonals rights ups sources = FormedTo (cells (g .rows) (g .columns)) g diagonals rights ups sources

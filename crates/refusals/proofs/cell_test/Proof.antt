@@ -1,0 +1,16 @@
+-- `refusals::cell_test` meets its contract.
+use borrow.Author.Needs.{needs}
+use Rattle.refusals.proofs.cell_test.Statement.{statement}
+use Rattle.refusals.proofs.cell_test.Tie as tie
+
+area-requires : tie.Need-area-requires
+area-requires c κs = search needs
+
+fail-if-requires : tie.Need-fail-if-requires
+fail-if-requires c κs = search needs
+
+returns : tie.Need-returns
+returns c = rw (c .before .area .ensures) at (c .fail-if .ensures)
+
+pub cell-test-spec : {M : Type 1} → statement M
+cell-test-spec = tie.close (tie.spec area-requires fail-if-requires returns)

@@ -1,0 +1,13 @@
+-- `refusals::fail_if` meets its contract.
+use borrow.Author.Needs.{needs}
+use Rattle.refusals.proofs.fail_if.Statement.{statement}
+use Rattle.refusals.proofs.fail_if.Tie as tie
+
+returns : tie.Need-returns
+returns c = rw (c .if1 .taken)
+
+returns-2 : tie.Need-returns-2
+returns-2 c = search needs
+
+pub fail-if-spec : {M : Type 1} → statement M
+fail-if-spec = tie.close (tie.spec returns returns-2)
