@@ -49,6 +49,13 @@ pub fn product(a: u32, b: u32) -> u64
     (a as u64) * (b as u64)
 }
 
+// The larger of two numbers.
+pub fn larger(a: u32, b: u32) -> u32
+    ensures { λ r. ⌜ r ≡ max a b ⌝ }
+{
+    if a < b { b } else { a }
+}
+
 pub struct Cell {
     pub diagonal: u32,
     pub pull: u64,

@@ -9,8 +9,8 @@ use lib.ListN.{length, getD}
 use Rattle.model.specs.Refusals.{Check, pass, _orElse_, failFirst}
 use Rattle.model.specs.Film.{Film, sizeOf}
 use Rattle.model.specs.Checks.{sizeCheck, startCheck, numericCheck, filmCheck, fieldCheck}
-use Rattle.model.proofs.Checks.{and-parts, orElse-parts, size-passes}
-use Rattle.refusals.proofs.Chain.{orElse-assoc, orElse-pass, orElse-given}
+use Rattle.model.proofs.Checks.{and-parts, orElse-assoc, orElse-parts, size-passes}
+use Rattle.refusals.proofs.Chain.{orElse-pass, orElse-given}
 use Rattle.checks.specs.Own.{ownCheck}
 
 -- document 01's order of tests: those that every call has, then 11, 12 and 13

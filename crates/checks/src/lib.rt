@@ -1,10 +1,10 @@
-// The tests of the calls that take coefficients: refusals 4, 5, 10, 14, 6, 9, 11, 12 and 13, in document 01's order.
-// Internal: other crates of Film call it before they do anything else, so that a refused call changes nothing.
+// The tests of the calls that take coefficients, in document 01's order: refusals 4, 5, 10, 14, 6, 9, 11, 12 and 13. The tests themselves
+// are in crates `refusals`, `limits` and `dominance`. Internal: other crates of Film call it before they do anything else, so that a
+// refused call changes nothing.
 //
 // Proved: what each test finds, read as the model's check by `checkOf`, equals the check that crate `model` defines, for all values
 // that the types can hold: no public function asks anything of its caller. So the first test that fails wins, at its lowest place.
-// Only the tests of values ask that those before them have passed, and no other crate calls these. proofs/Chain has how a call that
-// matches on a test meets its own definition.
+// Only the tests of values ask that those before them have passed, and no other crate calls these.
 ghost use mathlib.Core.Path.{_≡_};
 ghost use Rattle.model.specs.Refusals.{checkOf};
 ghost use Rattle.model.specs.Film.{filmOf};
@@ -28,7 +28,7 @@ fn value_tests(
 {
     match limits::coefficient_test(head, diagonals, rights, ups, sources) {
         Tested::Fine => {
-            let weight = refusals::weight_test(weights);
+            let weight = refusals::weight_test(weights, 0, 1);
             let row_sum = dominance::dominance_test(head, weights, diagonals, rights, ups);
             refusals::or_else(weight, row_sum)
         }
@@ -48,7 +48,7 @@ pub fn film_tests(
 ) -> Tested
     ensures { λ r. ⌜ checkOf r ≡ ownCheck (filmOf head (now (weights .entry)) (now (diagonals .entry)) (now (rights .entry)) (now (ups .entry)) (now (sources .entry))) fits ⌝ }
 {
-    let n = refusals::area(head.rows, head.columns);
+    let n = shape::area(head.rows, head.columns);
     let lengths = (weights.len() == n)
         & (diagonals.len() == n)
         & (rights.len() == n)
@@ -75,10 +75,11 @@ pub fn field_tests(
 ) -> Tested
     ensures { λ r. ⌜ checkOf r ≡ fieldCheck (filmOf head (now (weights .entry)) (now (diagonals .entry)) (now (rights .entry)) (now (ups .entry)) (now (sources .entry))) (now (field .entry)) fits (checkOf order) (checkOf place) ⌝ }
 {
-    let whole = field.len() == refusals::area(head.rows, head.columns);
+    let whole = field.len() == shape::area(head.rows, head.columns);
     let film = film_tests(head, weights, diagonals, rights, ups, sources, whole & fits);
+    let start = refusals::start_test(field, head.ceiling);
     refusals::or_else(
         film,
-        refusals::or_else(order, refusals::or_else(refusals::start_test(field, head.ceiling), place)),
+        refusals::or_else(order, refusals::or_else(start, place)),
     )
 }

@@ -19,7 +19,7 @@ pub fn form(
 ) -> Formed
     ensures { λ r. ⌜ Forms (gaugeOf head (now (weights .entry)) (now (thicknesses .entry)) wedge) (now (diagonals .entry)) (now (rights .entry)) (now (ups .entry)) (now (sources .entry)) (formAnswerOf r) (now (diagonals .exit)) (now (rights .exit)) (now (ups .exit)) (now (sources .exit)) ⌝ }
 {
-    let n = refusals::area(head.rows, head.columns);
+    let n = shape::area(head.rows, head.columns);
     let fits = (diagonals.len() == n)
         & (rights.len() == n)
         & (ups.len() == n)

@@ -1,4 +1,5 @@
-// Refusal 9: the weighted row sum of each cell, row by row, which shows that the matrix is Minkowski.
+// Refusal 9, of films given by coefficients: the weighted row sum of each cell, row by row, which shows that the matrix is Minkowski.
+// Internal: crate `checks` calls it where the coefficients are within their limits. Crate `row_sums` has that test for thicknesses.
 ghost use mathlib.Core.Path.{_≡_};
 ghost use mathlib.Core.Bool.{cond};
 ghost use Prim.Native.Nat.{_+_, _-_, _*_, _≤_, _<_};
@@ -40,11 +41,11 @@ fn not_dominant(
     ensures { λ r. ⌜ r ≡ notDominant (sourceless head (now (weights .entry)) (now (diagonals .entry)) (now (rights .entry)) (now (ups .entry))) ((row - 1) * head .columns + (column - 1)) ⌝ }
 {
     let columns = head.columns as usize;
-    let at = grid::index_of(head, row, column);
+    let at = shape::index_of(head, row, column);
     let left = link_back(rights, at, 1);
     let down = link_back(ups, at, columns);
-    let pull = grid::weights::pull(head, weights, row, column, left, rights[at], down, ups[at]);
-    let weight = grid::weights::weight_at(head, weights, row, column);
+    let pull = shape::weights::pull(head, weights, row, column, left, rights[at], down, ups[at]);
+    let weight = shape::weights::weight_at(head, weights, row, column);
     cell::product(diagonals[at], weight) <= pull
 }
 
@@ -67,7 +68,7 @@ fn row_test(
         if not_dominant(head, weights, diagonals, rights, ups, row, i + 1) {
             return Tested::Refused(Refusal {
                 fault: Fault::NotDominant,
-                place: grid::index_of(head, row, i + 1),
+                place: shape::index_of(head, row, i + 1),
             });
         }
         i += 1;

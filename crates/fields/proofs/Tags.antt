@@ -1,43 +1,45 @@
--- What a field's tag and a film's shape say of lengths, and where a walk over the fields comes to.
-use mathlib.Core.Path.{_≡_}
-use mathlib.Core.Bool.{Bool, true, false, cond}
+-- What a tag says of its field, and what follows from the tag that stands in a file.
+use mathlib.Core.Path.{_≡_, ap, _∙_}
+use mathlib.Core.Bool.{Bool, true, false, cond, not}
+use mathlib.Core.List.{List}
 use Prim.Native.Nat.{ℕ, _+_, _*_, _≤_}
 use native.Mathlib.Omega.{arith}
-use borrow.Author.Tests.{le-ltb}
-use lib.Dec.{eqb}
-use Rattle.model.specs.Limits.{sideLimit}
-use Rattle.model.specs.File.{cells, ringed, endOffset}
-use Rattle.fields.specs.Tags.{bodyLength, behind, fileLength}
+use borrow.Author.Tests.{eqb-true, not-false}
+use lib.Dec.{ltb, eqb}
+use lib.ListN.{length}
+use Rattle.model.specs.Refusals.{Check, pass, _orElse_, failIf}
+use Rattle.model.specs.Bytes.{byteAt, wordAt}
+use Rattle.model.specs.Fields.{Field, body, behind, fieldAt}
+use Rattle.model.specs.File.{shapeField, ceilingField, weightsField, thicknessesField, wedgeField}
+use Rattle.model.proofs.Checks.{failIf-pass}
+use Rattle.model.proofs.Fields.{header}
+use Rattle.refusals.proofs.Chain.{orElse-given}
+use Rattle.fields.specs.Tags.{fieldFor}
 
-either-low : (b : Bool) {x y k : ℕ} → x ≤ k → y ≤ k → cond b x y ≤ k
-either-low true h l = h
-either-low false h l = l
+either-low : (b : Bool) (x y : Field) {k : ℕ} → x .size ≤ k → y .size ≤ k → cond b x y .size ≤ k
+either-low true x y h l = h
+either-low false x y h l = l
 
-pub body-low : (tag n t : ℕ) → n ≤ 1024 → t ≤ 1156 → bodyLength tag n t ≤ 4096
-body-low tag n t h l =
-    either-low (eqb tag 1) (omega arith) (either-low (eqb tag 2) (omega arith) (either-low (eqb tag 3) (omega arith)
-    (either-low (eqb tag 4) (omega arith) (either-low (eqb tag 5) (omega arith) (omega arith)))))
+pub size-low : (tag n t : ℕ) → n ≤ 65025 → t ≤ 66049 → fieldFor tag n t .size ≤ 130050
+size-low tag n t h l =
+    either-low (eqb tag 1) shapeField _ (omega arith) (either-low (eqb tag 2) ceilingField _ (omega arith)
+    (either-low (eqb tag 3) (weightsField n) _ (omega arith) (either-low (eqb tag 4) (thicknessesField t) _ (omega arith)
+    (either-low (eqb tag 5) wedgeField _ (omega arith) (omega arith)))))
 
--- where the fields after the shape stand, and the end, in the file of a film with n cells and t thicknesses
-pub record Stands (n t second third fourth fifth end : ℕ) : Type 0 where
-  pub second-at : second ≡ 5
-  pub third-at : third ≡ 12
-  pub fourth-at : fourth ≡ 15 + 2 * n
-  pub fifth-at : fifth ≡ 18 + 2 * n + t
-  pub end-at : end ≡ endOffset n t
+-- a header's length may be taken from the tag that stands there: where that is another one, the field is refused before
+pub length-found : (l : List ℕ) (at tag n t : ℕ)
+    → fieldAt l at tag (fieldFor (byteAt l at) n t .size) ≡ fieldAt l at tag (fieldFor tag n t .size)
+unfolding fieldAt
+length-found l at tag n t =
+    orElse-given (failIf (ltb (length l) (body at)) 1 (length l))
+    (λ _. orElse-given (failIf (not (eqb (byteAt l at) tag)) 2 at)
+    (λ e.
+    let same : byteAt l at ≡ tag = eqb-true _ _ (not-false _ (failIf-pass _ 2 at e)) in
+    ap (λ k. failIf (not (eqb (wordAt l (at + 1)) (fieldFor k n t .size))) 3 at
+    orElse failIf (ltb (length l) (behind at (fieldFor k n t .size))) 1 (length l)) same))
 
--- a walk over the five fields comes to these, each from the one before
-pub walk-stands : {n t second third fourth fifth end : ℕ} → second ≡ behind 0 2 → third ≡ behind second 4 → fourth ≡ behind third (2 * n)
-    → fifth ≡ behind fourth t → end ≡ behind fifth 4 → Stands n t second third fourth fifth end
-walk-stands a b c d e = record {
-  second-at = a;
-  third-at = omega arith;
-  fourth-at = omega arith;
-  fifth-at = omega arith;
-  end-at = omega arith;
-}
-
-pub length-known : (rows columns : ℕ) → rows ≤ sideLimit → columns ≤ sideLimit
-    → fileLength rows columns ≡ endOffset (cells rows columns) (ringed rows columns)
-unfolding fileLength
-length-known rows columns h l = rw (le-ltb sideLimit rows h, le-ltb sideLimit columns l)
+-- so may the test of the values
+pub values-found : (l : List ℕ) (at tag n t : ℕ) {c : Check} → fieldAt l at tag (fieldFor tag n t .size) ≡ pass
+    → c ≡ fieldFor (byteAt l at) n t .check l (body at) → c ≡ fieldFor tag n t .check l (body at)
+values-found l at tag n t e f =
+    f ∙ ap (λ k. fieldFor k n t .check l (body at)) (header l at tag (fieldFor tag n t .size) e .tag-is)

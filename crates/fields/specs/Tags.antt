@@ -1,32 +1,29 @@
--- What a field's tag says: the length of its body, in the file of a film with n cells and t thicknesses; where the next field stands; and
--- the film's own file's length.
-use mathlib.Core.Path.{_≡_}
-use mathlib.Core.Bool.{cond, _||_}
+-- The field that a tag names, in the file of a film with n cells and t thicknesses; and how far a walk over such fields may come.
+use mathlib.Core.Bool.{cond}
 use mathlib.Core.List.{List}
-use Prim.Native.Nat.{ℕ, _+_, _*_, _≤_}
-use lib.Dec.{ltb, eqb}
-use lib.ListN.{length}
-use Rattle.model.specs.Limits.{sideLimit}
-use Rattle.model.specs.Gauge.{Gauge}
-use Rattle.model.specs.File.{cells, ringed, endOffset}
+use Prim.Native.Nat.{ℕ, _≤_}
+use lib.Dec.{eqb}
+use Rattle.model.specs.Refusals.{Check, pass, _orElse_}
+use Rattle.model.specs.Fields.{Field, body, fieldAt}
+use Rattle.model.specs.File.{shapeField, ceilingField, weightsField, thicknessesField, wedgeField}
 
-abbrev pub bodyLength : ℕ → ℕ → ℕ → ℕ
-bodyLength tag n t =
-    cond (eqb tag 1) 2 (cond (eqb tag 2) 4 (cond (eqb tag 3) (2 * n) (cond (eqb tag 4) t (cond (eqb tag 5) 4 0))))
+-- a tag that no field has
+abbrev unknown : Field
+unknown = record { tag = 0; size = 0; check = λ bytes at. pass }
 
--- the offset behind a field at an offset: its header has three bytes
-abbrev pub behind : ℕ → ℕ → ℕ
-behind at size = at + 3 + size
+abbrev pub fieldFor : ℕ → ℕ → ℕ → Field
+fieldFor tag n t =
+    cond (eqb tag 1) shapeField
+    (cond (eqb tag 2) ceilingField
+    (cond (eqb tag 3) (weightsField n) (cond (eqb tag 4) (thicknessesField t) (cond (eqb tag 5) wedgeField unknown))))
 
--- the length of a film's file; 0 where a side is beyond its limit
-unfoldable pub fileLength : ℕ → ℕ → ℕ
-fileLength rows columns =
-    cond (ltb sideLimit rows || ltb sideLimit columns) 0 (endOffset (cells rows columns) (ringed rows columns))
+-- the field with that tag at an offset: header and values
+abbrev pub fieldTest : ℕ → ℕ → ℕ → List ℕ → ℕ → Check
+fieldTest tag n t bytes at =
+    fieldAt bytes at tag (fieldFor tag n t .size) orElse fieldFor tag n t .check bytes (body at)
 
--- a film whose shape and lengths have passed their tests, and a slice of its file's length
-pub record Ready (g : Gauge) (out : List ℕ) : Type 0 where
-  pub rows-low : g .rows ≤ sideLimit
-  pub columns-low : g .columns ≤ sideLimit
-  pub weights-len : length (g .weights) ≡ cells (g .rows) (g .columns)
-  pub thicknesses-len : length (g .thicknesses) ≡ ringed (g .rows) (g .columns)
-  pub out-len : length out ≡ endOffset (cells (g .rows) (g .columns)) (ringed (g .rows) (g .columns))
+-- Sides of up to 255 stand in a file before they are tested, and so the offsets behind its fields are small numbers all the same.
+pub record Room (at n t : ℕ) : Type 0 where
+  pub at-low : at ≤ 800000
+  pub cells-few : n ≤ 65025
+  pub ring-few : t ≤ 66049

@@ -1,34 +1,25 @@
-// The fields of a file, tag, length and body: their tests, the numbers in their bodies, and how they are written.
+// One field of a film file, as the reader tests it: header, tag, length, presence of the body, values. The tag byte that stands in the
+// file chooses the one permitted length of the body and the test of its values. Internal: the walk along a file calls it.
+//
+// Proved: what a field's test finds is what crate `model` says of the field with that tag (`fieldTest`), at every offset of every file.
+// Values are tested where they stand, once the whole body is there; so no file that is cut short needs a case of its own.
 ghost use mathlib.Core.Path.{_≡_};
-ghost use mathlib.Core.List.{[], _∷_};
 ghost use Prim.Native.Nat.{_+_, _*_, _≤_};
-ghost use lib.ListN.{length, take};
-ghost use lib.Seq.{sets};
-ghost use Rattle.model.specs.Lists.{tabulate};
+ghost use lib.ListN.{length};
 ghost use Rattle.model.specs.Refusals.{checkOf};
-ghost use Rattle.model.specs.Bytes.{wordAt, long};
-ghost use Rattle.model.specs.File.{weightOffset, fieldAt, field as fieldOf, weightBytes};
-ghost use Rattle.fields.specs.Tags.{bodyLength, behind};
+ghost use Rattle.model.specs.Checks.{shapeCheck, ceilingCheck};
+ghost use Rattle.model.specs.Bytes.{byteAt, wordAt, longAt, signedOf};
+ghost use Rattle.model.specs.Fields.{behind, fieldAt};
+ghost use Rattle.model.specs.File.{weightsFrom, thicknessesFrom, wedgeCheck};
+ghost use Rattle.fields.specs.Tags.{fieldFor, fieldTest, Room};
 use model::Fault;
+use model::Refusal;
 use model::Tested;
 
-// A file's bytes and a position in them: the reader walks a file as this view. Only `viewed`, `moved` and `walk_field` take it apart or
-// make it.
-pub struct View<'a> {
-    pub bytes: &'a [u8],
-    pub at: usize,
-}
-
-// What the test of a field found, and the offset that the walk has come to.
-pub struct Walked {
-    pub tested: Tested,
-    pub next: usize,
-}
-
-// The length of a field's body, for n cells and t thicknesses: each tag has one. Other tags have none.
+// The one permitted length of a body, by the tag: n cells, t thicknesses. Tags that no field has get none.
 fn body_length(tag: u8, n: usize, t: usize) -> usize
-    requires { ⌜ n ≤ 1024 ⌝ }
-    ensures { λ r. ⌜ r ≡ bodyLength tag n t ⌝ }
+    requires { ⌜ n ≤ 65025 ⌝ }
+    ensures { λ r. ⌜ r ≡ fieldFor tag n t .size ⌝ }
 {
     match tag {
         1 => 2,
@@ -41,8 +32,8 @@ fn body_length(tag: u8, n: usize, t: usize) -> usize
 }
 
 // Refusals 1, 2 and 3: a header at `at`, with that tag and that length, and the whole body after it.
-fn field_at(file: &[u8], at: usize, tag: u8, size: usize) -> Tested
-    requires { ⌜ (at ≤ 4096) × (size ≤ 4096) ⌝ }
+fn header_test(file: &[u8], at: usize, tag: u8, size: usize) -> Tested
+    requires { ⌜ (at ≤ 1000000) × (size ≤ 1000000) ⌝ }
     ensures { λ r. ⌜ checkOf r ≡ fieldAt (now (file .entry)) at tag size ⌝ }
 {
     let end = file.len();
@@ -58,127 +49,92 @@ fn field_at(file: &[u8], at: usize, tag: u8, size: usize) -> Tested
     )
 }
 
-// The offset behind a field's header and body.
-fn next_at(at: usize, size: usize) -> usize
-    requires { ⌜ (at ≤ 4096) × (size ≤ 4096) ⌝ }
-    ensures { λ r. ⌜ r ≡ behind at size ⌝ }
+// Refusal 4, of the two bytes at `at`.
+fn shape_values(file: &[u8], at: usize) -> Tested
+    requires { ⌜ at ≤ 1000000 ⌝ }
+    ensures { λ r. ⌜ checkOf r ≡ shapeCheck (byteAt (now (file .entry)) at) at (byteAt (now (file .entry)) (at + 1)) (at + 1) ⌝ }
 {
-    at + 3 + size
+    let rows = words::numbers::byte_at(file, at) as u32;
+    let columns = words::numbers::byte_at(file, at + 1) as u32;
+    refusals::shape_test(rows, at, columns, at + 1)
 }
 
-// The test of the field where a view stands.
-fn viewed<'a>(view: View<'a>, tag: u8, size: usize) -> Tested
-    requires { ⌜ (view .at ≤ 4096) × (size ≤ 4096) ⌝ }
-    ensures { λ r. ⌜ checkOf r ≡ fieldAt (now (view .entry .bytes)) (view .entry .at) tag size ⌝ }
+// Refusal 5, of the number at `at`.
+fn ceiling_values(file: &[u8], at: usize) -> Tested
+    requires { ⌜ at ≤ 1000000 ⌝ }
+    ensures { λ r. ⌜ checkOf r ≡ ceilingCheck (longAt (now (file .entry)) at) at ⌝ }
 {
-    field_at(view.bytes, view.at, tag, size)
+    refusals::ceiling_test(words::numbers::long_at(file, at), at)
 }
 
-// The view behind the field where it stands.
-fn moved<'a>(view: View<'a>, size: usize) -> View<'a>
-    requires { ⌜ (view .at ≤ 4096) × (size ≤ 4096) ⌝ }
-    ensures { λ q. ⌜ (q .bytes ≡ view .entry .bytes) × (q .at ≡ behind (view .entry .at) size) ⌝ }
-{
-    let at = next_at(view.at, size);
-    View {
-        bytes: view.bytes,
-        at,
-    }
-}
-
-// A step of the walk: the view at an offset tests its field and moves behind it. It takes and answers plain values, so that its callers
-// need not know of views.
-fn walk_field(file: &[u8], at: usize, tag: u8, size: usize) -> Walked
-    requires { ⌜ (at ≤ 4096) × (size ≤ 4096) ⌝ }
-    ensures { λ w. ⌜ (checkOf (w .tested) ≡ fieldAt (now (file .entry)) at tag size) × (w .next ≡ behind at size) ⌝ }
-{
-    let view = View { bytes: file, at };
-    let tested = viewed(view, tag, size);
-    let passed = moved(view, size);
-    Walked {
-        tested,
-        next: passed.at,
-    }
-}
-
-// The field with a tag at an offset, in the file of a film with n cells and t thicknesses.
-pub fn field(file: &[u8], at: usize, tag: u8, n: usize, t: usize) -> Walked
-    requires { ⌜ (at ≤ 4096) × (n ≤ 1024) × (t ≤ 1156) ⌝ }
-    ensures { λ w. ⌜ (checkOf (w .tested) ≡ fieldAt (now (file .entry)) at tag (bodyLength tag n t)) × (w .next ≡ behind at (bodyLength tag n t)) ⌝ }
-{
-    walk_field(file, at, tag, body_length(tag, n, t))
-}
-
-// The weights of a file that has them all, into the first n places of a table: no byte needs a test of its own.
-fn whole_weights_in(file: &[u8], n: usize, weights: &mut [u16])
-    requires { ⌜ (n ≤ length (now weights)) × (n ≤ 1024) × (weightOffset n ≤ length (now file)) ⌝ }
-    ensures { λ r. ⌜ take n (now (weights .exit)) ≡ tabulate n (λ i. wordAt (now (file .entry)) (weightOffset i)) ⌝ }
+// Refusal 6, at the lowest of n weights from `at` on.
+fn weight_values(file: &[u8], at: usize, n: usize) -> Tested
+    requires { ⌜ (at + 2 * n ≤ length (now file)) × (at ≤ 1000000) × (n ≤ 65025) ⌝ }
+    ensures { λ r. ⌜ checkOf r ≡ weightsFrom (λ i. wordAt (now (file .entry)) (at + 2 * i)) n at ⌝ }
 {
     let mut i = 0;
     while i < n {
-        let at = 15 + 2 * i;
-        weights[i] = words::numbers::first_word(&file[at..]);
+        let place = at + 2 * i;
+        if words::numbers::first_word(&file[place..]) == 0 {
+            return Tested::Refused(Refusal {
+                fault: Fault::ZeroWeight,
+                place: place,
+            });
+        }
         i += 1;
     }
+    Tested::Fine
 }
 
-// The weights of a file that may be cut short: what is missing is 0.
-fn cut_weights_in(file: &[u8], n: usize, weights: &mut [u16])
-    requires { ⌜ (n ≤ length (now weights)) × (n ≤ 1024) ⌝ }
-    ensures { λ r. ⌜ take n (now (weights .exit)) ≡ tabulate n (λ i. wordAt (now (file .entry)) (weightOffset i)) ⌝ }
+// Refusal 7, at the lowest of t thicknesses from `at` on.
+fn thickness_values(file: &[u8], at: usize, t: usize) -> Tested
+    requires { ⌜ (at + t ≤ length (now file)) × (at + t ≤ 1000000) ⌝ }
+    ensures { λ r. ⌜ checkOf r ≡ thicknessesFrom (λ j. byteAt (now (file .entry)) (at + j)) t at ⌝ }
 {
-    let mut i = 0;
-    while i < n {
-        weights[i] = words::numbers::word_at(file, 15 + 2 * i);
-        i += 1;
+    let end = at + t;
+    gauge::thicknesses_test(&file[at..end], at)
+}
+
+// Refusal 8, of the number at `at`.
+fn wedge_values(file: &[u8], at: usize) -> Tested
+    requires { ⌜ at ≤ 1000000 ⌝ }
+    ensures { λ r. ⌜ checkOf r ≡ wedgeCheck (signedOf (longAt (now (file .entry)) at)) at ⌝ }
+{
+    let wedge = words::numbers::signed(words::numbers::long_at(file, at));
+    gauge::wedge_test(wedge, at)
+}
+
+// The values of the body at `at`, by the tag: the whole body is there.
+fn value_test(tag: u8, file: &[u8], at: usize, n: usize, t: usize) -> Tested
+    requires { ⌜ (at + fieldFor tag n t .size ≤ length (now file)) × (at ≤ 900000) × (n ≤ 65025) × (t ≤ 66049) ⌝ }
+    ensures { λ r. ⌜ checkOf r ≡ fieldFor tag n t .check (now (file .entry)) at ⌝ }
+{
+    match tag {
+        1 => shape_values(file, at),
+        2 => ceiling_values(file, at),
+        3 => weight_values(file, at, n),
+        4 => thickness_values(file, at, t),
+        5 => wedge_values(file, at),
+        0 | 6..=255 => Tested::Fine,
     }
 }
 
-// The weights that stand in a file, into the first n places of a table.
-pub fn weights_in(file: &[u8], n: usize, weights: &mut [u16])
-    requires { ⌜ (n ≤ length (now weights)) × (n ≤ 1024) ⌝ }
-    ensures { λ r. ⌜ take n (now (weights .exit)) ≡ tabulate n (λ i. wordAt (now (file .entry)) (weightOffset i)) ⌝ }
+// The field that should have that tag, at an offset: what stands there chooses the length and the test of the values.
+pub fn field_test(file: &[u8], at: usize, tag: u8, n: usize, t: usize) -> Tested
+    requires { ⌜ Room at n t ⌝ }
+    ensures { λ r. ⌜ checkOf r ≡ fieldTest tag n t (now (file .entry)) at ⌝ }
 {
-    if file.len() < 15 + 2 * n {
-        cut_weights_in(file, n, weights)
-    } else {
-        whole_weights_in(file, n, weights)
+    let found = words::numbers::byte_at(file, at);
+    match header_test(file, at, tag, body_length(found, n, t)) {
+        Tested::Fine => value_test(found, file, at + 3, n, t),
+        Tested::Refused(r) => Tested::Refused(r),
     }
 }
 
-// The field of the shape, at the start of a file.
-pub fn put_shape(out: &mut [u8], rows: u32, columns: u32)
-    requires { ⌜ (5 ≤ length (now out)) × (rows ≤ 255) × (columns ≤ 255) ⌝ }
-    ensures { λ r. ⌜ now (out .exit) ≡ sets (now (out .entry)) 0 (fieldOf 1 2 (rows ∷ columns ∷ [])) ⌝ }
+// The offset behind the field that stands there.
+pub fn next_at(file: &[u8], at: usize, n: usize, t: usize) -> usize
+    requires { ⌜ Room at n t ⌝ }
+    ensures { λ r. ⌜ r ≡ behind at (fieldFor (byteAt (now (file .entry)) at) n t .size) ⌝ }
 {
-    words::put::put_header(out, 0, 1, 2);
-    out[3] = rows as u8;
-    out[4] = columns as u8;
-}
-
-// The field of one number of four bytes.
-pub fn put_number(out: &mut [u8], at: usize, tag: u8, n: u32)
-    requires { ⌜ at + 7 ≤ length (now out) ⌝ }
-    ensures { λ r. ⌜ now (out .exit) ≡ sets (now (out .entry)) at (fieldOf tag 4 (long n)) ⌝ }
-{
-    words::put::put_header(out, at, tag, 4);
-    words::put::put_long(out, at + 3, n);
-}
-
-// The field of the weights.
-pub fn put_weights(out: &mut [u8], at: usize, weights: &[u16])
-    requires { ⌜ (at + 3 + 2 * length (now weights) ≤ length (now out)) × (length (now weights) ≤ 1024) ⌝ }
-    ensures { λ r. ⌜ now (out .exit) ≡ sets (now (out .entry)) at (fieldOf 3 (2 * length (now (weights .entry))) (weightBytes (now (weights .entry)))) ⌝ }
-{
-    words::put::put_header(out, at, 3, 2 * (weights.len() as u32));
-    words::put::put_weights(out, at + 3, weights);
-}
-
-// The field of the thicknesses.
-pub fn put_thicknesses(out: &mut [u8], at: usize, thicknesses: &[u8])
-    requires { ⌜ (at + 3 + length (now thicknesses) ≤ length (now out)) × (length (now thicknesses) ≤ 1156) ⌝ }
-    ensures { λ r. ⌜ now (out .exit) ≡ sets (now (out .entry)) at (fieldOf 4 (length (now (thicknesses .entry))) (now (thicknesses .entry))) ⌝ }
-{
-    words::put::put_header(out, at, 4, thicknesses.len() as u32);
-    text::put_bytes(out, at + 3, thicknesses);
+    at + 3 + body_length(words::numbers::byte_at(file, at), n, t)
 }

@@ -1,3 +1,4 @@
 -- Laws that the proofs of the functions share.
-pub mod Film
+pub mod Writing
+pub mod Reading
 pub mod Inverse

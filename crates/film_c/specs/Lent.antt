@@ -3,6 +3,7 @@ use mathlib.Core.Path.{_≡_}
 use mathlib.Core.List.{List}
 use Prim.Native.Nat.{ℕ}
 use lib.IntN.{ℤ}
+use lib.ListN.{getD}
 use Rattle.model.specs.Gauge.{Gauge}
 use Rattle.model.specs.Result.{Result}
 use Rattle.model.specs.File.{gaugeIn}
@@ -11,8 +12,9 @@ use Rattle.model.specs.declared.Head.{Head}
 use Rattle.told.specs.Refused.{Told}
 use Rattle.tell_files.specs.Files.{LoadTold, writeTest}
 
-abbrev pub headOf : ℕ → ℕ → ℕ → Head
-headOf rows columns ceiling = record { rows = rows; columns = columns; ceiling = ceiling }
+-- a head as it is lent: rows, columns, ceiling
+abbrev pub headOf : List ℕ → Head
+headOf head = record { rows = getD head 0 0; columns = getD head 1 0; ceiling = getD head 2 0 }
 
 -- a call with one lent slice told its answer, and left just this in the slice
 pub record Leaves {A : Type 0} (call : Result A) (Tells : A → Type 0) (exit : List ℕ) : Type 0 where

@@ -4,7 +4,6 @@ ghost use Rattle.model.specs.ReportCall.{reportCall};
 ghost use Rattle.told.specs.Refused.{Told};
 ghost use Rattle.tell_files.specs.Files.{ReportTold, writeTest};
 ghost use Rattle.film_c.specs.Lent.{headOf, Leaves, ReadTold, FormTold};
-use model::Head;
 
 // Writes a file's report at the start of out, and tells its length.
 #[no_mangle]
@@ -20,7 +19,7 @@ pub extern "C" fn film_report(
     tell_files::report(answer, length, place)
 }
 
-// Reads a film file: head is rows, columns and ceiling.
+// Reads a film file, its head and its wedge.
 #[no_mangle]
 pub extern "C" fn film_read(
     file: &[u8],
@@ -39,22 +38,16 @@ pub extern "C" fn film_read(
 // Writes a film's file.
 #[no_mangle]
 pub extern "C" fn film_write(
-    rows: u32,
-    columns: u32,
-    ceiling: u32,
+    head: &[u32; 3],
     weights: &[u16],
     thicknesses: &[u8],
     wedge: i32,
     out: &mut [u8],
     place: &mut usize,
 ) -> u32
-    ensures { λ r. ⌜ Leaves (saveCall (gaugeOf (headOf rows columns ceiling) (now (weights .entry)) (now (thicknesses .entry)) wedge) (now (out .entry))) (λ a. Told (writeTest a) (now (place .entry)) r (now (place .exit))) (now (out .exit)) ⌝ }
+    ensures { λ r. ⌜ Leaves (saveCall (gaugeOf (headOf (now (head .entry))) (now (weights .entry)) (now (thicknesses .entry)) wedge) (now (out .entry))) (λ a. Told (writeTest a) (now (place .entry)) r (now (place .exit))) (now (out .exit)) ⌝ }
 {
-    let head = Head {
-        rows: rows,
-        columns: columns,
-        ceiling: ceiling,
-    };
+    let head = crate::head_of(head);
     let answer = file::write(head, weights, thicknesses, wedge, out);
     tell_files::write(answer, place)
 }
@@ -62,9 +55,7 @@ pub extern "C" fn film_write(
 // Forms the coefficients of a film.
 #[no_mangle]
 pub extern "C" fn film_form(
-    rows: u32,
-    columns: u32,
-    ceiling: u32,
+    head: &[u32; 3],
     weights: &[u16],
     thicknesses: &[u8],
     wedge: i32,
@@ -74,13 +65,9 @@ pub extern "C" fn film_form(
     sources: &mut [i64],
     place: &mut usize,
 ) -> u32
-    ensures { λ r. ⌜ FormTold (gaugeOf (headOf rows columns ceiling) (now (weights .entry)) (now (thicknesses .entry)) wedge) (now (diagonals .entry)) (now (rights .entry)) (now (ups .entry)) (now (sources .entry)) (now (place .entry)) r (now (diagonals .exit)) (now (rights .exit)) (now (ups .exit)) (now (sources .exit)) (now (place .exit)) ⌝ }
+    ensures { λ r. ⌜ FormTold (gaugeOf (headOf (now (head .entry))) (now (weights .entry)) (now (thicknesses .entry)) wedge) (now (diagonals .entry)) (now (rights .entry)) (now (ups .entry)) (now (sources .entry)) (now (place .entry)) r (now (diagonals .exit)) (now (rights .exit)) (now (ups .exit)) (now (sources .exit)) (now (place .exit)) ⌝ }
 {
-    let head = Head {
-        rows: rows,
-        columns: columns,
-        ceiling: ceiling,
-    };
+    let head = crate::head_of(head);
     let answer = coefficients::form(
         head,
         weights,

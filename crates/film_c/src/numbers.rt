@@ -8,14 +8,11 @@ ghost use Rattle.model.specs.Run.{runCall};
 ghost use Rattle.told.specs.Refused.{Told};
 ghost use Rattle.tell.specs.Numbers.{SlackTold, MarginTold, RelaxTold, ProposeTold, estimateTest, RunTold};
 ghost use Rattle.film_c.specs.Lent.{headOf, Leaves};
-use model::Head;
 
 // Tells the slack of one cell.
 #[no_mangle]
 pub extern "C" fn film_slack(
-    rows: u32,
-    columns: u32,
-    ceiling: u32,
+    head: &[u32; 3],
     weights: &[u16],
     diagonals: &[u32],
     rights: &[u32],
@@ -26,13 +23,9 @@ pub extern "C" fn film_slack(
     slack: &mut i64,
     place: &mut usize,
 ) -> u32
-    ensures { λ r. ⌜ SlackTold (slackCall (filmOf (headOf rows columns ceiling) (now (weights .entry)) (now (diagonals .entry)) (now (rights .entry)) (now (ups .entry)) (now (sources .entry))) (now (field .entry)) at) (now (slack .entry)) (now (place .entry)) r (now (slack .exit)) (now (place .exit)) ⌝ }
+    ensures { λ r. ⌜ SlackTold (slackCall (filmOf (headOf (now (head .entry))) (now (weights .entry)) (now (diagonals .entry)) (now (rights .entry)) (now (ups .entry)) (now (sources .entry))) (now (field .entry)) at) (now (slack .entry)) (now (place .entry)) r (now (slack .exit)) (now (place .exit)) ⌝ }
 {
-    let head = Head {
-        rows: rows,
-        columns: columns,
-        ceiling: ceiling,
-    };
+    let head = crate::head_of(head);
     let answer = problem::slack(head, weights, diagonals, rights, ups, sources, field, at);
     tell::slack(answer, slack, place)
 }
@@ -40,9 +33,7 @@ pub extern "C" fn film_slack(
 // Tells the film's margin.
 #[no_mangle]
 pub extern "C" fn film_margin(
-    rows: u32,
-    columns: u32,
-    ceiling: u32,
+    head: &[u32; 3],
     weights: &[u16],
     diagonals: &[u32],
     rights: &[u32],
@@ -51,13 +42,9 @@ pub extern "C" fn film_margin(
     margin: &mut u32,
     place: &mut usize,
 ) -> u32
-    ensures { λ r. ⌜ MarginTold (marginCall (filmOf (headOf rows columns ceiling) (now (weights .entry)) (now (diagonals .entry)) (now (rights .entry)) (now (ups .entry)) (now (sources .entry)))) (now (margin .entry)) (now (place .entry)) r (now (margin .exit)) (now (place .exit)) ⌝ }
+    ensures { λ r. ⌜ MarginTold (marginCall (filmOf (headOf (now (head .entry))) (now (weights .entry)) (now (diagonals .entry)) (now (rights .entry)) (now (ups .entry)) (now (sources .entry)))) (now (margin .entry)) (now (place .entry)) r (now (margin .exit)) (now (place .exit)) ⌝ }
 {
-    let head = Head {
-        rows: rows,
-        columns: columns,
-        ceiling: ceiling,
-    };
+    let head = crate::head_of(head);
     let answer = line::margin(head, weights, diagonals, rights, ups, sources);
     tell::margin(answer, margin, place)
 }
@@ -65,9 +52,7 @@ pub extern "C" fn film_margin(
 // Makes a run: result is 0 for done, 1 for stopped or 2 for over, then visits, raises, and cells raised by proposals; cell is that of Over.
 #[no_mangle]
 pub extern "C" fn film_run(
-    rows: u32,
-    columns: u32,
-    ceiling: u32,
+    head: &[u32; 3],
     weights: &[u16],
     diagonals: &[u32],
     rights: &[u32],
@@ -81,13 +66,9 @@ pub extern "C" fn film_run(
     cell: &mut usize,
     place: &mut usize,
 ) -> u32
-    ensures { λ r. ⌜ Leaves (runCall (filmOf (headOf rows columns ceiling) (now (weights .entry)) (now (diagonals .entry)) (now (rights .entry)) (now (ups .entry)) (now (sources .entry))) budget order proposals (now (field .entry))) (λ a. RunTold a (now (result .entry)) (now (cell .entry)) (now (place .entry)) r (now (result .exit)) (now (cell .exit)) (now (place .exit))) (now (field .exit)) ⌝ }
+    ensures { λ r. ⌜ Leaves (runCall (filmOf (headOf (now (head .entry))) (now (weights .entry)) (now (diagonals .entry)) (now (rights .entry)) (now (ups .entry)) (now (sources .entry))) budget order proposals (now (field .entry))) (λ a. RunTold a (now (result .entry)) (now (cell .entry)) (now (place .entry)) r (now (result .exit)) (now (cell .exit)) (now (place .exit))) (now (field .exit)) ⌝ }
 {
-    let head = Head {
-        rows: rows,
-        columns: columns,
-        ceiling: ceiling,
-    };
+    let head = crate::head_of(head);
     let answer = run::run(
         head,
         weights,
@@ -106,9 +87,7 @@ pub extern "C" fn film_run(
 // Relaxes one cell: result is 0 for quiet, 1 for raised or 2 for over, then the pressure that it was raised to.
 #[no_mangle]
 pub extern "C" fn film_relax(
-    rows: u32,
-    columns: u32,
-    ceiling: u32,
+    head: &[u32; 3],
     weights: &[u16],
     diagonals: &[u32],
     rights: &[u32],
@@ -119,13 +98,9 @@ pub extern "C" fn film_relax(
     result: &mut [u32; 2],
     place: &mut usize,
 ) -> u32
-    ensures { λ r. ⌜ Leaves (relaxCall (filmOf (headOf rows columns ceiling) (now (weights .entry)) (now (diagonals .entry)) (now (rights .entry)) (now (ups .entry)) (now (sources .entry))) (now (field .entry)) at) (λ a. RelaxTold a (now (result .entry)) (now (place .entry)) r (now (result .exit)) (now (place .exit))) (now (field .exit)) ⌝ }
+    ensures { λ r. ⌜ Leaves (relaxCall (filmOf (headOf (now (head .entry))) (now (weights .entry)) (now (diagonals .entry)) (now (rights .entry)) (now (ups .entry)) (now (sources .entry))) (now (field .entry)) at) (λ a. RelaxTold a (now (result .entry)) (now (place .entry)) r (now (result .exit)) (now (place .exit))) (now (field .exit)) ⌝ }
 {
-    let head = Head {
-        rows: rows,
-        columns: columns,
-        ceiling: ceiling,
-    };
+    let head = crate::head_of(head);
     let answer = problem::relax(head, weights, diagonals, rights, ups, sources, field, at);
     tell::relax(answer, result, place)
 }
@@ -133,9 +108,7 @@ pub extern "C" fn film_relax(
 // Proposes pressures for a line: result is 1 for accepted or 0 for rejected, then the number of cells raised.
 #[no_mangle]
 pub extern "C" fn film_propose(
-    rows: u32,
-    columns: u32,
-    ceiling: u32,
+    head: &[u32; 3],
     weights: &[u16],
     diagonals: &[u32],
     rights: &[u32],
@@ -147,13 +120,9 @@ pub extern "C" fn film_propose(
     result: &mut [u32; 2],
     place: &mut usize,
 ) -> u32
-    ensures { λ r. ⌜ Leaves (proposeCall (filmOf (headOf rows columns ceiling) (now (weights .entry)) (now (diagonals .entry)) (now (rights .entry)) (now (ups .entry)) (now (sources .entry))) line (now (proposal .entry)) (now (field .entry))) (λ a. ProposeTold a (now (result .entry)) (now (place .entry)) r (now (result .exit)) (now (place .exit))) (now (field .exit)) ⌝ }
+    ensures { λ r. ⌜ Leaves (proposeCall (filmOf (headOf (now (head .entry))) (now (weights .entry)) (now (diagonals .entry)) (now (rights .entry)) (now (ups .entry)) (now (sources .entry))) line (now (proposal .entry)) (now (field .entry))) (λ a. ProposeTold a (now (result .entry)) (now (place .entry)) r (now (result .exit)) (now (place .exit))) (now (field .exit)) ⌝ }
 {
-    let head = Head {
-        rows: rows,
-        columns: columns,
-        ceiling: ceiling,
-    };
+    let head = crate::head_of(head);
     let answer = line::propose(
         head,
         weights,
@@ -171,9 +140,7 @@ pub extern "C" fn film_propose(
 // Writes the program's own proposal for a line.
 #[no_mangle]
 pub extern "C" fn film_estimate(
-    rows: u32,
-    columns: u32,
-    ceiling: u32,
+    head: &[u32; 3],
     weights: &[u16],
     diagonals: &[u32],
     rights: &[u32],
@@ -184,13 +151,9 @@ pub extern "C" fn film_estimate(
     proposal: &mut [u32],
     place: &mut usize,
 ) -> u32
-    ensures { λ r. ⌜ Leaves (estimateCall (filmOf (headOf rows columns ceiling) (now (weights .entry)) (now (diagonals .entry)) (now (rights .entry)) (now (ups .entry)) (now (sources .entry))) line (now (field .entry)) (now (proposal .entry))) (λ a. Told (estimateTest a) (now (place .entry)) r (now (place .exit))) (now (proposal .exit)) ⌝ }
+    ensures { λ r. ⌜ Leaves (estimateCall (filmOf (headOf (now (head .entry))) (now (weights .entry)) (now (diagonals .entry)) (now (rights .entry)) (now (ups .entry)) (now (sources .entry))) line (now (field .entry)) (now (proposal .entry))) (λ a. Told (estimateTest a) (now (place .entry)) r (now (place .exit))) (now (proposal .exit)) ⌝ }
 {
-    let head = Head {
-        rows: rows,
-        columns: columns,
-        ceiling: ceiling,
-    };
+    let head = crate::head_of(head);
     let answer = line::estimate(
         head,
         weights,

@@ -32,7 +32,7 @@ fn signed(x: i64) {
 fn refused(r: Refusal) {
     let fault = r.fault;
     text(b"REFUSED");
-    spaced(render::number_of(fault));
+    spaced(told::number_of(fault) as u64);
     spaced(r.place as u64);
     text(b"\n");
 }
@@ -158,8 +158,8 @@ fn used(head: Head, weights: &[u16], thicknesses: &[u8], wedge: i32, file: &[u8]
     if head.columns > 32 {
         return;
     }
-    let n = refusals::area(head.rows, head.columns);
-    let t = refusals::area(head.rows + 2, head.columns + 2);
+    let n = shape::area(head.rows, head.columns);
+    let t = shape::ring(head.rows, head.columns);
     if n > weights.len() {
         return;
     }

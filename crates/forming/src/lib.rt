@@ -1,4 +1,5 @@
-// One cell's coefficients, from the thicknesses of the cell and of the four beside it.
+// The coefficients that thicknesses and wedge form: a cell's, from its own thickness and the four beside it, and a film's, into four lent
+// slices. Internal: the public call `form` and the report write them all, and crate `row_sums` takes a cell's.
 ghost use mathlib.Core.Path.{_≡_};
 ghost use mathlib.Core.Bool.{cond};
 ghost use mathlib.Core.List.{[]};

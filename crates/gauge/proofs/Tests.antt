@@ -10,10 +10,9 @@ use Rattle.model.specs.Refusals.{Check, pass, failIf, _orElse_}
 use Rattle.model.specs.Checks.{shapeCheck}
 use Rattle.model.specs.File.{rowsOffset, columnsOffset, gaugeCheck}
 use Rattle.model.specs.FileCalls.{gaugeFits}
-use Rattle.model.proofs.Checks.{and-parts, orElse-parts, failIf-pass}
+use Rattle.model.proofs.Checks.{and-parts, orElse-assoc, orElse-parts, failIf-pass}
 use Rattle.model.proofs.Sides.{cells-low}
 use Rattle.model.proofs.File.{gauge-shape}
-use Rattle.refusals.proofs.Chain.{orElse-assoc}
 use Rattle.forming.specs.Cell.{Ringed}
 use Rattle.gauge.specs.Tests.{sizedCheck, Measured}
 use Rattle.forming.proofs.Cell.{ring-low}

@@ -1,15 +1,12 @@
--- A cell and its neighbours: by index alone, and, where the numbers are weights, by row and column.
+-- A cell and its neighbours, by index alone.
 use mathlib.Core.Path.{_≡_}
 use mathlib.Core.Bool.{cond}
-use mathlib.Core.List.{List, []}
+use mathlib.Core.List.{List}
 use Prim.Native.Nat.{ℕ, _+_, _-_, _*_, _≤_, _<_, _^_}
 use lib.Dec.{ltb}
 use lib.IntN.{ℤ, pos}
 use lib.ListN.{length, getD}
 use Rattle.model.specs.Integers.{lift, drop}
-use Rattle.model.specs.Reynolds.{pressureAt}
-use Rattle.model.specs.FileCalls.{gaugeOf}
-use Rattle.model.specs.declared.Head.{Head}
 use Rattle.cell.specs.Cell.{Bounded}
 use Rattle.cell.specs.declared.Cell.{Cell}
 
@@ -58,13 +55,3 @@ pub record Loaded (columns : ℕ) (diagonals rights ups : List ℕ) (sources : L
 pub record Loads (r cell : Cell) : Type 0 where
   pub is : r ≡ cell
   pub bounded : Bounded r
-
--- the weight at (r, c), which run from 1; 0 on the ring
-abbrev pub weightOf : Head → List ℕ → ℕ → ℕ → ℕ
-weightOf h weights = pressureAt (gaugeOf h [] [] (pos 0)) weights
-
--- what the weights beside (r, c) pull, each over its link
-abbrev pub weightsPull : Head → List ℕ → ℕ → ℕ → ℕ → ℕ → ℕ → ℕ → ℕ
-weightsPull h weights r c left right down up =
-    left * weightOf h weights r (c - 1) + right * weightOf h weights r (c + 1)
-    + (down * weightOf h weights (r - 1) c + up * weightOf h weights (r + 1) c)

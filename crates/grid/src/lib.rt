@@ -1,5 +1,5 @@
-// A film's grid in lent slices: loading a cell with its neighbours' pull, weights by row and column, and the table of an ordering.
-// Internal: other crates of Film call it.
+// A film's cells in lent slices: a cell with its neighbours' pull, by index alone, and its slack. Internal: what relaxes, proposes,
+// estimates or prints a cell loads it here.
 //
 // Links that leave the grid are 0 (refusal 14 sees to it), so the pull needs no rows and columns: the neighbours of cell i are
 // i − 1, i + 1, i − C and i + C, as far as there are such cells. proofs/Neighbours shows that this is the sum over the
@@ -13,17 +13,6 @@ ghost use Rattle.model.specs.Accepted.{Limited};
 ghost use Rattle.grid.specs.Pull.{Links, backOf, aheadOf, Product, pullBy, cellBy, Loaded, Loads};
 use cell::Cell;
 use model::Head;
-
-pub mod weights; // weights.rt: a cell's weight, and what those beside it pull
-
-// The index of cell (row, column), which run from 1.
-pub fn index_of(head: Head, row: usize, column: usize) -> usize
-    requires { ⌜ (head .rows ≤ 32) × (head .columns ≤ 32) ⌝ }
-    requires { ⌜ (1 ≤ row) × (row ≤ head .rows) × (1 ≤ column) × (column ≤ head .columns) ⌝ }
-    ensures { λ r. ⌜ (r ≡ (row - 1) * head .columns + (column - 1)) × (r < head .rows * head .columns) × (r < 1024) ⌝ }
-{
-    (row - 1) * (head.columns as usize) + (column - 1)
-}
 
 // The link to the cell that lies `step` before `at`, times that cell's number; 0 if there is none.
 pub fn pull_back(links: &[u32], numbers: &[u32], at: usize, step: usize) -> u64

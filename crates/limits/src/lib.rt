@@ -1,4 +1,6 @@
-// Refusal 14: a cell's diagonal, links and source within their limits, and no link that leaves the grid.
+// Refusal 14, of films given by coefficients: each cell's diagonal, links and source within their limits, and no link that leaves the
+// grid. Internal: crate `checks` calls it where shape and lengths have passed. That sums fit, and that a cell's neighbours are found by
+// index alone, rests on it in all later crates.
 ghost use mathlib.Core.Path.{_≡_};
 ghost use mathlib.Core.Bool.{_&&_};
 ghost use Prim.Native.Nat.{_+_, _-_, _*_, _≤_};
@@ -51,7 +53,7 @@ fn bad_coefficient(
 {
     let rows = head.rows as usize;
     let columns = head.columns as usize;
-    let at = grid::index_of(head, row, column);
+    let at = shape::index_of(head, row, column);
     let right = rights[at];
     let up = ups[at];
     refusals::outside(diagonals[at], 1, DIAGONAL_LIMIT)
@@ -81,7 +83,7 @@ fn row_test(
         if bad_coefficient(head, diagonals, rights, ups, sources, row, i + 1) {
             return Tested::Refused(Refusal {
                 fault: Fault::BadCoefficient,
-                place: grid::index_of(head, row, i + 1),
+                place: shape::index_of(head, row, i + 1),
             });
         }
         i += 1;

@@ -83,7 +83,7 @@ pub fn margin(
     ensures { λ r. ⌜ marginAnswerOf r ≡ marginCall (filmOf head (now (weights .entry)) (now (diagonals .entry)) (now (rights .entry)) (now (ups .entry)) (now (sources .entry))) ⌝ }
 {
     match checks::film_tests(head, weights, diagonals, rights, ups, sources, true) {
-        Tested::Fine => Margin::Is(estimate::margin(head, weights, diagonals, rights, ups)),
+        Tested::Fine => Margin::Is(margin::margin(head, weights, diagonals, rights, ups)),
         Tested::Refused(r) => Margin::Refused(r),
     }
 }
@@ -118,7 +118,7 @@ pub fn estimate(
     ) {
         Tested::Fine => {
             let first = proposal::line_start(head.columns, line);
-            let margin = estimate::margin(head, weights, diagonals, rights, ups);
+            let margin = margin::margin(head, weights, diagonals, rights, ups);
             estimate::estimate(
                 head,
                 weights,

@@ -1,5 +1,5 @@
 -- What a passed test says of a film, and what the theory needs of it: weights that show dominance, and a bounded start.
-use mathlib.Core.Path.{_≡_, refl, sym, _∙_}
+use mathlib.Core.Path.{_≡_, refl, sym, ap, _∙_}
 use mathlib.Core.Bool.{Bool, true, false, _&&_, _||_, true≢false, false≢true}
 use mathlib.Core.List.{List}
 use Prim.Native.Nat.{ℕ, _+_, _*_, _≤_, _<_}
@@ -10,16 +10,16 @@ use lib.Dec.{leb, ltb, eqb}
 use lib.IntN.{pos}
 use lib.ListN.{length, getD}
 use Rattle.monotone.specs.Rule.{Bounded}
-use Rattle.monotone.specs.Linear.{ruleOf, Positive, Dominant}
+use Rattle.monotone.specs.Linear.{Positive, Dominant}
 use Rattle.monotone.proofs.Linear.{dominant-positive}
 use Rattle.model.specs.Limits.{sideLimit, ceilingLimit, diagonalLimit}
 use Rattle.model.specs.Lists.{firstOf}
 use Rattle.model.specs.Integers.{atMostZero}
 use Rattle.model.specs.Refusals.{Check, pass, fail, _orElse_, failIf, failFirst}
-use Rattle.model.specs.Film.{Film, sizeOf, rowOf, columnOf, diagonalAt, rightAt, upAt, weightAt, pullOf, dominance, systemOf}
+use Rattle.model.specs.Film.{Film, sizeOf, rowOf, columnOf, diagonalAt, rightAt, upAt, weightAt, pullOf, dominance, systemOf, rule}
 use Rattle.model.specs.Checks.{outside, shapeCheck, ceilingCheck, filmFits, badCoefficient, zeroWeight, notDominant, sizeCheck, coefficientCheck, weightCheck, dominanceCheck, startCheck, numericCheck, fieldCheck}
 use Rattle.model.specs.Accepted.{Sized, LimitedCell, Limited, Accepted}
-use Rattle.model.proofs.Lists.{first-miss}
+use Rattle.model.proofs.Lists.{first-miss, first-same}
 use Rattle.model.proofs.Film.{slack-atMostZero, bounded-cells}
 
 -- Tests joined by `and` and by `or`.
@@ -31,10 +31,19 @@ pub or-parts : (a b : Bool) → (a || b) ≡ false → (a ≡ false) × (b ≡ f
 or-parts true b e = absurd (true≢false e)
 or-parts false b e = (refl, e)
 
--- Checks one after another: where the whole passes, each does.
+-- Checks one after another, joined either way.
+pub orElse-assoc : (x y z : Check) → ((x orElse y) orElse z) ≡ (x orElse y orElse z)
+orElse-assoc pass y z = refl
+orElse-assoc (fail number place) y z = refl
+
+-- Where the whole passes, each does.
 pub orElse-parts : (x y : Check) → (x orElse y) ≡ pass → (x ≡ pass) × (y ≡ pass)
 orElse-parts pass y e = (refl, e)
 orElse-parts (fail number place) y e = (e, cc)
+
+-- and back: two tests pass where each does
+pub pass-both : {x y : Check} → x ≡ pass → y ≡ pass → (x orElse y) ≡ pass
+pass-both e f = rw (e, f)
 
 pub failIf-pass : (bad : Bool) (number place : ℕ) → failIf bad number place ≡ pass → bad ≡ false
 failIf-pass true number place e = cc
@@ -42,6 +51,11 @@ failIf-pass false number place e = refl
 
 pub failFirst-pass : (bad : ℕ → Bool) (n number : ℕ) (place : ℕ → ℕ) → failFirst bad n number place ≡ pass → (i : ℕ) → i < n → bad i ≡ false
 failFirst-pass bad n number place e = first-miss bad n (ltb-false _ _ (failIf-pass _ number (place (firstOf bad n)) e))
+
+-- searches by tests that agree below n
+pub failFirst-same : (bad other : ℕ → Bool) (n number : ℕ) (place : ℕ → ℕ) → ((i : ℕ) → i < n → bad i ≡ other i)
+    → failFirst bad n number place ≡ failFirst other n number place
+failFirst-same bad other n number place h = ap (λ k. failIf (ltb k n) number (place k)) (first-same bad other n h)
 
 -- what it says that a call's tests have all passed
 pub record Passed (f : Film) (fits : Bool) (order start place : Check) : Type 0 where
@@ -164,14 +178,14 @@ pub accepted-positive : {f : Film} → Accepted f → Positive (systemOf f)
 accepted-positive A = dominant-positive (accepted-dominant A)
 
 -- a start that passes its test is bounded
-pub start-bounded : (f : Film) (p : List ℕ) → length p ≡ sizeOf f → startCheck f p ≡ pass → Bounded (ruleOf (systemOf f)) p
+pub start-bounded : (f : Film) (p : List ℕ) → length p ≡ sizeOf f → startCheck f p ≡ pass → Bounded (rule f) p
 start-bounded f p e s =
     bounded-cells e (λ i h. ltb-false _ _ (failFirst-pass (λ j. ltb (f .ceiling) (getD p j 0)) (sizeOf f) 12 (λ j. j) s i h))
 
 -- where the tests of a call that takes a field too have all passed
 pub record FieldPassed (f : Film) (p : List ℕ) (fits : Bool) (order place : Check) : Type 0 where
   pub film : Accepted f
-  pub bounded : Bounded (ruleOf (systemOf f)) p
+  pub bounded : Bounded (rule f) p
   pub fits-is : fits ≡ true
   pub order-is : order ≡ pass
   pub place-is : place ≡ pass

@@ -7,11 +7,11 @@ use native.Mathlib.Omega.{arith}
 use lib.Dec.{leb}
 use Rattle.monotone.specs.Field.{total, _⊑_}
 use Rattle.monotone.specs.Rule as theory
-use Rattle.monotone.specs.Linear.{ruleOf, Positive}
+use Rattle.monotone.specs.Linear.{Positive}
 use Rattle.monotone.specs.History.{Verdict, Good}
 use Rattle.monotone.proofs.Order.{feasible-satisfied, ⊑-antisym, total-mono, bounded-total, rises-refl, rises-trans}
 use Rattle.monotone.proofs.History.{zeros-under, zeros-bounded}
-use Rattle.model.specs.Film.{Film, sizeOf, systemOf, Feasible}
+use Rattle.model.specs.Film.{Film, sizeOf, systemOf, rule, Feasible}
 use Rattle.model.specs.Refusals.{pass}
 use Rattle.model.specs.Checks.{filmCheck}
 use Rattle.model.specs.Accepted.{Accepted}
@@ -62,23 +62,20 @@ when-done (ran budget order on answer exit) {P} {Q} h = go (runAnswerOf answer)
 when-done (proposed line proposal answer exit) h = λ p. tt
 
 module _ (f : Film) (A : Accepted f) where
-  abbrev F : theory.Rule
-  F = ruleOf (systemOf f)
-
   positive : Positive (systemOf f)
   positive = accepted-positive A
 
   -- a step that keeps its call's promise is good
-  step-good : (entry : List ℕ) (s : Step) → theory.Bounded F entry → Kept f entry s → Good F entry (exitOf s) (stepVerdict (sizeOf f) s)
+  step-good : (entry : List ℕ) (s : Step) → theory.Bounded (rule f) entry → Kept f entry s → Good (rule f) entry (exitOf s) (stepVerdict (sizeOf f) s)
   step-good entry (ran budget order on answer exit) B k = rw (k .answer-is, k .lent-is) (calls-good f A (Call.run budget order on) entry B)
   step-good entry (proposed line proposal answer exit) B k = rw (k .lent-is) (calls-good f A (Call.propose line proposal) entry B)
 
   -- the field that a step takes up has come from the zero field, and the step is good
   record Reached (entry : List ℕ) (s : Step) : Type 0 where
-    from : theory.Rises F (zeroField f) entry
-    good : Good F entry (exitOf s) (stepVerdict (sizeOf f) s)
+    from : theory.Rises (rule f) (zeroField f) entry
+    good : Good (rule f) entry (exitOf s) (stepVerdict (sizeOf f) s)
 
-  reached : (entry : List ℕ) (ss : List Step) → theory.Rises F (zeroField f) entry → Each (Kept f) entry ss → Each Reached entry ss
+  reached : (entry : List ℕ) (ss : List Step) → theory.Rises (rule f) (zeroField f) entry → Each (Kept f) entry ss → Each Reached entry ss
   reached entry [] R all = tt
   reached entry (s ∷ ss) R all =
       let g = step-good entry s (R .bounded) (all .0) in
@@ -87,13 +84,13 @@ module _ (f : Film) (A : Accepted f) where
   below : (entry : List ℕ) (s : Step) → Reached entry s → (z : List ℕ) → Feasible f z → exitOf s ⊑ z
   below entry s R z m =
       let M = feasible-to f positive m in
-      R .good .rises .under z (feasible-satisfied M) (R .from .under z (feasible-satisfied M) (zeros-under F z))
+      R .good .rises .under z (feasible-satisfied M) (R .from .under z (feasible-satisfied M) (zeros-under (rule f) z))
 
   -- by the step's answer
   done-holds : (entry : List ℕ) (s : Step) → Reached entry s → WhenDone s (Feasible f (exitOf s) × ((z : List ℕ) → Feasible f z → exitOf s ⊑ z))
   done-holds entry (ran budget order on answer exit) R = go (runAnswerOf answer) (R .good)
     where
-      go : (a : RunAnswer) → Good F entry exit (runVerdict (sizeOf f) budget a)
+      go : (a : RunAnswer) → Good (rule f) entry exit (runVerdict (sizeOf f) budget a)
           → IfDone a (Feasible f exit × ((z : List ℕ) → Feasible f z → exit ⊑ z))
       go (done c) g = (feasible-from f positive (g .told), below entry (ran budget order on answer exit) R)
       go (stopped c) g = tt
@@ -104,12 +101,12 @@ module _ (f : Film) (A : Accepted f) where
   over-holds : (entry : List ℕ) (s : Step) → Reached entry s → WhenOver s ((z : List ℕ) → Feasible f z → ⊥)
   over-holds entry (ran budget order on answer exit) R = go (runAnswerOf answer) (R .good)
     where
-      go : (a : RunAnswer) → Good F entry exit (runVerdict (sizeOf f) budget a) → IfOver a ((z : List ℕ) → Feasible f z → ⊥)
+      go : (a : RunAnswer) → Good (rule f) entry exit (runVerdict (sizeOf f) budget a) → IfOver a ((z : List ℕ) → Feasible f z → ⊥)
       go (done c) g = tt
       go (stopped c) g = tt
       go (over i c) g = λ z m.
           let M = feasible-to f positive m in
-          g .told z M (R .from .under z (feasible-satisfied M) (zeros-under F z))
+          g .told z M (R .from .under z (feasible-satisfied M) (zeros-under (rule f) z))
       go (refused number place) g = tt
   over-holds entry (proposed line proposal answer exit) R = tt
 
@@ -120,11 +117,11 @@ module _ (f : Film) (A : Accepted f) where
       up : total entry ≤ total exit
       up = total-mono (R .good .rises .rose)
 
-      covered : (t : Bool) → Good F entry exit (cond t Verdict.exhausted Verdict.other) → cond t 1 0 + total entry ≤ total exit
+      covered : (t : Bool) → Good (rule f) entry exit (cond t Verdict.exhausted Verdict.other) → cond t 1 0 + total entry ≤ total exit
       covered true g = omega (arith, g .told)
       covered false g = omega (arith, up)
 
-      go : (a : RunAnswer) → Good F entry exit (runVerdict (sizeOf f) budget a) → stoppedBy (sizeOf f) budget a + total entry ≤ total exit
+      go : (a : RunAnswer) → Good (rule f) entry exit (runVerdict (sizeOf f) budget a) → stoppedBy (sizeOf f) budget a + total entry ≤ total exit
       go (done c) g = omega (arith, up)
       go (stopped c) g = covered (leb (sizeOf f) budget) g
       go (over i c) g = omega (arith, up)
@@ -139,7 +136,7 @@ module _ (f : Film) (A : Accepted f) where
 
   module _ (ss : List Step) (H : History f ss) where
     all : Each Reached (zeroField f) ss
-    all = reached (zeroField f) ss (rises-refl (zeros-bounded F)) (H .kept)
+    all = reached (zeroField f) ss (rises-refl (zeros-bounded (rule f))) (H .kept)
 
     held : Holds f ss
     held =
@@ -151,10 +148,10 @@ module _ (f : Film) (A : Accepted f) where
           over-none = each-map over-holds (zeroField f) ss all;
           stopped-least = λ q L.
               let low : (entry : List ℕ) (s : Step) → Reached entry s → total (exitOf s) ≤ total q = λ entry s R. total-mono (below entry s R q (least-feasible f positive L)) in
-              omega (arith, counted (total q) (zeroField f) ss (total-mono (zeros-under F q)) all (each-map low (zeroField f) ss all));
+              omega (arith, counted (total q) (zeroField f) ss (total-mono (zeros-under (rule f) q)) all (each-map low (zeroField f) ss all));
           stopped-none = λ _.
               let low : (entry : List ℕ) (s : Step) → Reached entry s → total (exitOf s) ≤ sizeOf f * f .ceiling = λ entry s R. bounded-total (R .good .rises .bounded) in
-              omega (arith, counted (sizeOf f * f .ceiling) (zeroField f) ss (bounded-total (zeros-bounded F)) all (each-map low (zeroField f) ss all));
+              omega (arith, counted (sizeOf f * f .ceiling) (zeroField f) ss (bounded-total (zeros-bounded (rule f))) all (each-map low (zeroField f) ss all));
         }
 
   -- two least fields are one

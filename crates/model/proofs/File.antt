@@ -1,34 +1,35 @@
 -- Reading and writing film files are inverse (document 01, "The film file").
 --
--- The file of a film is its five fields, one after another.
---   What is written reads back: each field stands in the file at its offset (`Stands`), so that its tests pass and its numbers are read.
---   What was read is written back: where a field's tests pass, the file up to the field's end is the file up to its start, and the field
---   that the writer makes of the numbers read from it (`upTo`).
+-- The file of a film is its five fields, one after another; that lists of fields are written and walked alike is in `Fields`.
+--   What is written reads back: each field stands at its offset, so that its tests pass and its numbers are read.
+--   What was read is written back: a walk that passes means that the bytes are the fields, and each body is what the writer makes of the
+--   numbers read from it (`bodies-in`).
 -- Film F's file, at the end, shows that not every file is refused.
 use mathlib.Core.Path.{_≡_, refl, sym, ap, ap₂, _∙_, subst}
-use mathlib.Core.Bool.{true, not}
+use mathlib.Core.Bool.{true}
 use mathlib.Core.List.{List, [], _∷_, _++_}
 use Prim.Native.Nat.{ℕ, zero, suc, _+_, _-_, _*_, _/_, _%_, _≤_, _<_}
-use native.Mathlib.Nat.{le-refl, le-of-suc-le-suc, zero-add, add-zero, add-assoc, suc-add, div-add-mod', mul-le-mul}
+use native.Mathlib.Nat.{le-of-suc-le-suc, zero-add, add-zero, add-assoc, suc-add, div-add-mod', mul-le-mul}
 use native.Mathlib.Omega.{arith}
-use borrow.Author.Tests.{lt-ltb, le-ltb, eq-eqb, ltb-false, eqb-true, not-false}
+use borrow.Author.Tests.{lt-ltb, le-ltb, ltb-false}
 use lib.Arith.{digits-div, digits-mod}
 use lib.Dec.{ltb, eqb}
 use lib.IntN.{ℤ, pos, negsuc, natAbs}
-use lib.ListN.{length, getD, length-append, List·getD-append}
-use lib.Seq.{getD-append-add}
-use Rattle.model.specs.Limits.{sideLimit, wedgeLimit}
+use lib.ListN.{length, getD}
+use Rattle.model.specs.Limits.{sideLimit, thicknessLimit, wedgeLimit}
 use Rattle.model.specs.Lists.{tabulate, firstOf}
 use Rattle.model.specs.Refusals.{Check, pass, fail, _orElse_, failIf}
 use Rattle.model.specs.Gauge.{Gauge}
 use Rattle.model.specs.Film.{beside, across, neighbours}
 use Rattle.model.specs.Checks.{outside, shapeCheck, ceilingCheck, notDominant}
 use Rattle.model.specs.Bytes.{byteAt, wordAt, longAt, signedOf, word, long, unsignedOf}
-use Rattle.model.specs.File.{cells, ringed, rowsOffset, columnsOffset, ceilingOffset, weightOffset, thicknessOffset, wedgeOffset, endOffset, weightsCheck, thicknessesCheck, wedgeCheck, gaugeDominance, fieldAt, gaugeIn, fieldsCheck, fileCheck, accepted, readBy, readFilm, weightBytes, field, fileOf, gaugeCheck, Bytes, Values}
+use Rattle.model.specs.Fields.{Field, body, behind, endOf, fieldAt, walk, strayAt, field, bytesOf}
+use Rattle.model.specs.File.{cells, ringed, weightsFrom, thicknessesFrom, wedgeCheck, gauged, rowsOffset, columnsOffset, ceilingOffset, weightsOffset, thicknessesOffset, wedgeOffset, endOffset, cellsIn, ringIn, gaugeIn, gaugeDominance, fieldsCheck, fileCheck, accepted, readBy, readFilm, weightBytes, bodies, fileOf, weightsCheck, thicknessesCheck, gaugeCheck, Bytes, Values}
 use Rattle.model.specs.FilmF.{bytesF, FileEdges}
 use Rattle.model.proofs.Integers.{by-order}
-use Rattle.model.proofs.Lists.{tabulate-length, tabulate-is}
-use Rattle.model.proofs.Checks.{within, orElse-parts, failIf-pass}
+use Rattle.model.proofs.Lists.{tabulate-length, tabulate-at, tabulate-is}
+use Rattle.model.proofs.Checks.{within, orElse-parts, pass-both, failIf-pass, failFirst-same}
+use Rattle.model.proofs.Fields.{Passes, walk-passes, passes-walk, passes-end, bodiesIn, walked, begins-whole, Stands, Fit, Laid, laid, bytes-length}
 
 -- ---- numbers and their bytes
 
@@ -51,7 +52,7 @@ signed-writes n h =
     by-order n 2147483648 (λ a. rw (lt-ltb n 2147483648 a)) (λ a. rw (le-ltb n 2147483648 a) (omega arith))
 
 -- the bytes of weights: how many they are, the weight read from them, and that weights read from bytes are written as those bytes
-weights-length : (ws : List ℕ) → length (weightBytes ws) ≡ 2 * length ws
+pub weights-length : (ws : List ℕ) → length (weightBytes ws) ≡ 2 * length ws
 weights-length [] = refl
 weights-length (w ∷ ws) = omega (arith, weights-length ws)
 
@@ -82,9 +83,9 @@ cellsOf g = cells (g .rows) (g .columns)
 abbrev ringOf : Gauge → ℕ
 ringOf g = ringed (g .rows) (g .columns)
 
--- two tests pass where each does
-pub pass-both : {x y : Check} → x ≡ pass → y ≡ pass → (x orElse y) ≡ pass
-pass-both e f = rw (e, f)
+-- the film's fields
+abbrev fieldsOf : Gauge → List Field
+fieldsOf g = gauged (cellsOf g) (ringOf g)
 
 -- where the tests of a film's numbers have passed, all but that of dominance; and that one too
 pub record NumbersPassed (g : Gauge) : Type 0 where
@@ -116,46 +117,45 @@ gauge-tests g p =
     pass-both (n .shape) (pass-both (n .ceiling) (pass-both (n .weights)
     (pass-both (n .thicknesses) (pass-both (n .wedge) (p .dominant)))))
 
--- the tests of the file beside those of its numbers: five fields, and nothing after them
-record Fields (l : List ℕ) (n t : ℕ) : Type 0 where
-  shape : fieldAt l 0 1 2 ≡ pass
-  ceiling : fieldAt l 5 2 4 ≡ pass
-  weights : fieldAt l 12 3 (2 * n) ≡ pass
-  thicknesses : fieldAt l (15 + 2 * n) 4 t ≡ pass
-  wedge : fieldAt l (18 + 2 * n + t) 5 4 ≡ pass
-  ends : failIf (ltb (endOffset n t) (length l)) 2 (endOffset n t) ≡ pass
+-- the lists of a film are tested alike in its file, where they stand at their offsets, and as numbers read from it
+pub weights-alike : (l : List ℕ) (n at : ℕ)
+    → weightsFrom (λ i. getD (tabulate n (λ k. wordAt l (at + 2 * k))) i 0) n at ≡ weightsFrom (λ i. wordAt l (at + 2 * i)) n at
+weights-alike l n at =
+    failFirst-same _ _ n 6 (λ i. at + 2 * i) (λ i h. ap (λ w. eqb w 0) (tabulate-at n (λ k. wordAt l (at + 2 * k)) 0 i h))
 
-fields-pass : (l : List ℕ) (g : Gauge) → fieldsCheck l g (cellsOf g) (ringOf g) ≡ pass
-    → Fields l (cellsOf g) (ringOf g) × GaugePassed g
-fields-pass l g e =
-    let n = cellsOf g in
-    let t = ringOf g in
-    let f1 = orElse-parts (fieldAt l 0 1 2) _ e in
-    let t1 = orElse-parts (shapeCheck (g .rows) rowsOffset (g .columns) columnsOffset) _ (f1 .1) in
-    let f2 = orElse-parts (fieldAt l 5 2 4) _ (t1 .1) in
-    let t2 = orElse-parts (ceilingCheck (g .ceiling) ceilingOffset) _ (f2 .1) in
-    let f3 = orElse-parts (fieldAt l 12 3 (2 * n)) _ (t2 .1) in
-    let t3 = orElse-parts (weightsCheck (g .weights) n) _ (f3 .1) in
-    let f4 = orElse-parts (fieldAt l (15 + 2 * n) 4 t) _ (t3 .1) in
-    let t4 = orElse-parts (thicknessesCheck (g .thicknesses) n t) _ (f4 .1) in
-    let f5 = orElse-parts (fieldAt l (18 + 2 * n + t) 5 4) _ (t4 .1) in
-    let t5 = orElse-parts (wedgeCheck (g .wedge) (wedgeOffset n t)) _ (f5 .1) in
-    let f6 = orElse-parts (failIf (ltb (endOffset n t) (length l)) 2 (endOffset n t)) _ (t5 .1) in (
-      record { shape = f1 .0; ceiling = f2 .0; weights = f3 .0; thicknesses = f4 .0; wedge = f5 .0; ends = f6 .0 },
-      record {
-        numbers = record { shape = t1 .0; ceiling = t2 .0; weights = t3 .0; thicknesses = t4 .0; wedge = t5 .0 };
-        dominant = f6 .1;
-      },
-    )
+pub thicknesses-alike : (l : List ℕ) (n at : ℕ)
+    → thicknessesFrom (λ j. getD (tabulate n (λ k. byteAt l (at + k))) j 0) n at ≡ thicknessesFrom (λ j. byteAt l (at + j)) n at
+thicknesses-alike l n at =
+    failFirst-same _ _ n 7 (λ j. at + j) (λ j h. ap (λ x. outside x 1 thicknessLimit) (tabulate-at n (λ k. byteAt l (at + k)) 0 j h))
 
--- and back
-fields-tests : (l : List ℕ) (g : Gauge) → Fields l (cellsOf g) (ringOf g) → GaugePassed g
-    → fieldsCheck l g (cellsOf g) (ringOf g) ≡ pass
-fields-tests l g f p =
-    let n = p .numbers in
-    pass-both (f .shape) (pass-both (n .shape) (pass-both (f .ceiling) (pass-both (n .ceiling)
-    (pass-both (f .weights) (pass-both (n .weights) (pass-both (f .thicknesses) (pass-both (n .thicknesses)
-    (pass-both (f .wedge) (pass-both (n .wedge) (pass-both (f .ends) (p .dominant)))))))))))
+-- so a walk over the film's fields tests the numbers that stand in the file
+numbers-pass : (l : List ℕ) → Passes (fieldsOf (gaugeIn l)) l 0 → NumbersPassed (gaugeIn l)
+numbers-pass l p =
+    record {
+      shape = p .1;
+      ceiling = p .2 .1;
+      weights = weights-alike l (cellsIn l) weightsOffset ∙ p .2 .2 .1;
+      thicknesses = thicknesses-alike l (ringIn l) (thicknessesOffset (cellsIn l)) ∙ p .2 .2 .2 .1;
+      wedge = p .2 .2 .2 .2 .1;
+    }
+
+-- what it says that a file has passed all its tests
+record FilePassed (l : List ℕ) : Type 0 where
+  fields : Passes (fieldsOf (gaugeIn l)) l 0
+  ends : length l ≤ endOffset (cellsIn l) (ringIn l)
+  passed : GaugePassed (gaugeIn l)
+
+file-passes : (l : List ℕ) → fileCheck l ≡ pass → FilePassed l
+unfolding fileCheck
+file-passes l e =
+    let a = orElse-parts (fieldsCheck (fieldsOf (gaugeIn l)) l) _ e in
+    let b = orElse-parts (walk (fieldsOf (gaugeIn l)) l 0) _ (a .0) in
+    let fields = walk-passes (fieldsOf (gaugeIn l)) l 0 (b .0) in
+    record {
+      fields = fields;
+      ends = ltb-false _ _ (failIf-pass _ 2 _ (b .1));
+      passed = record { numbers = numbers-pass l fields; dominant = a .1 };
+    }
 
 -- what the tests of the shape and of the wedge number say
 
@@ -175,58 +175,10 @@ gauge-shape g e =
 pub wedge-low : {g : Gauge} → NumbersPassed g → natAbs (g .wedge) ≤ wedgeLimit
 wedge-low p = ltb-false _ _ (failIf-pass _ 8 _ (p .wedge))
 
--- ---- fields at their offsets
-
--- a file l begins with the bytes p, and so with fewer of them
-record Begins (p l : List ℕ) : Type 0 where
-  fits : length p ≤ length l
-  same : (i : ℕ) → i < length p → byteAt l i ≡ byteAt p i
-
-begins-less : (p q l : List ℕ) → Begins (p ++ q) l → Begins p l
-begins-less p q l b =
-    record {
-      fits = omega (arith, b .fits, length-append p q);
-      same = λ i h. b .same i (omega (arith, length-append p q)) ∙ List·getD-append p q 0 i h;
-    }
-
--- a field stands in a file at an offset: its tests pass, and the bytes of its body follow its three bytes of tag and length
-record Stands (l : List ℕ) (at tag size : ℕ) (body : List ℕ) : Type 0 where
-  passes : fieldAt l at tag size ≡ pass
-  inside : (j k : ℕ) → j < size → k ≡ at + 3 + j → byteAt l k ≡ byteAt body j
-
--- the offset at which a field ends
-field-length : (p : List ℕ) (at tag size : ℕ) (body : List ℕ) → length p ≡ at → length body ≡ size
-    → length (p ++ field tag size body) ≡ at + 3 + size
-field-length p at tag size body e f = omega (arith, length-append p (field tag size body))
-
--- where a file begins with some bytes and a field, the field stands after those bytes
-stands : (l p : List ℕ) (at tag size : ℕ) (body : List ℕ) → length p ≡ at → length body ≡ size → Begins (p ++ field tag size body) l
-    → Stands l at tag size body
-unfolding fieldAt
-stands l p at tag size body e f b =
-    let fits : at + 3 + size ≤ length l = omega (arith, b .fits, field-length p at tag size body e f) in
-    let h1 = here 1 (at + 1) (omega arith) refl in
-    let h2 = here 2 (at + 1 + 1) (omega arith) (omega arith) in
-    record {
-      passes =
-          rw (
-            le-ltb (length l) (at + 3) (omega arith),
-            eq-eqb (byteAt l at) tag (here 0 at (omega arith) (omega arith)),
-            eq-eqb (wordAt l (at + 1)) size (omega arith),
-            le-ltb (length l) (at + 3 + size) (omega arith),
-          );
-      inside = λ j k h c. here (suc (suc (suc j))) k (omega arith) (omega arith);
-    }
-  where
-    here : (j k : ℕ) → j < 3 + size → k ≡ at + j → byteAt l k ≡ byteAt (field tag size body) j
-    here j k h c =
-        let place : k ≡ length p + j = omega arith in
-        ap (byteAt l) place
-        ∙ b .same (length p + j) (omega (arith, field-length p at tag size body e f))
-        ∙ getD-append-add p (field tag size body) j 0
+-- ---- what is written reads back
 
 -- the number that is read from a body of four bytes
-long-inside : {l : List ℕ} {at tag n : ℕ} → Stands l at tag 4 (long n) → (k : ℕ) → k ≡ at + 3 → longAt l k ≡ n
+long-inside : {l : List ℕ} {at tag n : ℕ} → Stands l at tag 4 (long n) → (k : ℕ) → k ≡ body at → longAt l k ≡ n
 long-inside {n = n} s k e =
     omega (
       arith,
@@ -236,63 +188,31 @@ long-inside {n = n} s k e =
       s .inside 3 (k + 2 + 1) (omega arith) (omega arith),
     )
 
--- ---- what is written reads back
+-- the bodies of a film's fields have their lengths, so that the fields stand in the film's own file
+bodies-fit : (g : Gauge) → Values g → Fit (fieldsOf g) (bodies g)
+bodies-fit g v =
+    let weights : length (weightBytes (g .weights)) ≡ 2 * cellsOf g = omega (arith, weights-length (g .weights), v .weights-len) in
+    (refl, (refl, (weights, (v .thicknesses-len, (refl, tt)))))
 
--- the five fields of a film stand in a file, which ends with the last
-record Laid (g : Gauge) (l : List ℕ) : Type 0 where
-  shape : Stands l 0 1 2 (g .rows ∷ g .columns ∷ [])
-  ceiling : Stands l 5 2 4 (long (g .ceiling))
-  weights : Stands l 12 3 (2 * cellsOf g) (weightBytes (g .weights))
-  thicknesses : Stands l (15 + 2 * cellsOf g) 4 (ringOf g) (g .thicknesses)
-  wedge : Stands l (18 + 2 * cellsOf g + ringOf g) 5 4 (long (unsignedOf (g .wedge)))
-  len : length l ≡ endOffset (cellsOf g) (ringOf g)
-
--- so they do in the film's own file
-laid : (g : Gauge) → Values g → Laid g (fileOf g)
+file-laid : (g : Gauge) → Values g → Laid (fieldsOf g) (bodies g) (fileOf g) 0
 unfolding fileOf
-laid g v =
-    let n = cellsOf g in
-    let t = ringOf g in
-    let bytes = weightBytes (g .weights) in
-    let wedge = long (unsignedOf (g .wedge)) in
-    let f1 = field 1 2 (g .rows ∷ g .columns ∷ []) in
-    let f2 = field 2 4 (long (g .ceiling)) in
-    let f3 = field 3 (2 * n) bytes in
-    let f4 = field 4 t (g .thicknesses) in
-    let f5 = field 5 4 wedge in
-    let l = f1 ++ f2 ++ f3 ++ f4 ++ f5 in
-    let w : length bytes ≡ 2 * n = omega (arith, weights-length (g .weights), v .weights-len) in
-    let e3 : length (f1 ++ f2 ++ f3) ≡ 15 + 2 * n = field-length (f1 ++ f2) 12 3 (2 * n) bytes refl w in
-    let e4 : length (f1 ++ f2 ++ f3 ++ f4) ≡ 18 + 2 * n + t =
-    field-length (f1 ++ f2 ++ f3) (15 + 2 * n) 4 t (g .thicknesses) e3 (v .thicknesses-len) ∙ omega arith in
-    let b5 : Begins l l = record { fits = le-refl (length l); same = λ i h. refl } in
-    let b4 = begins-less (f1 ++ f2 ++ f3 ++ f4) f5 l b5 in
-    let b3 = begins-less (f1 ++ f2 ++ f3) f4 l b4 in
-    let b2 = begins-less (f1 ++ f2) f3 l b3 in
-    record {
-      shape = stands l [] 0 1 2 (g .rows ∷ g .columns ∷ []) refl refl (begins-less f1 f2 l b2);
-      ceiling = stands l f1 5 2 4 (long (g .ceiling)) refl refl b2;
-      weights = stands l (f1 ++ f2) 12 3 (2 * n) bytes refl w b3;
-      thicknesses = stands l (f1 ++ f2 ++ f3) (15 + 2 * n) 4 t (g .thicknesses) e3 (v .thicknesses-len) b4;
-      wedge = stands l (f1 ++ f2 ++ f3 ++ f4) (18 + 2 * n + t) 5 4 wedge e4 refl b5;
-      len = field-length (f1 ++ f2 ++ f3 ++ f4) (18 + 2 * n + t) 5 4 wedge e4 refl ∙ omega arith;
-    }
+file-laid g v = laid (fieldsOf g) (bodies g) (fileOf g) [] 0 (bodies-fit g v) refl (begins-whole (fileOf g))
 
 -- where a film's fields stand in a file, the numbers in the file are the film's
-module _ (g : Gauge) (l : List ℕ) (v : Values g) (h : natAbs (g .wedge) ≤ wedgeLimit) (L : Laid g l) where
+module _ (g : Gauge) (l : List ℕ) (v : Values g) (h : natAbs (g .wedge) ≤ wedgeLimit) (L : Laid (fieldsOf g) (bodies g) l 0) where
   rows-read : byteAt l rowsOffset ≡ g .rows
-  rows-read = L .shape .inside 0 3 (omega arith) refl
+  rows-read = L .0 .inside 0 3 (omega arith) refl
 
   columns-read : byteAt l columnsOffset ≡ g .columns
-  columns-read = L .shape .inside 1 4 (omega arith) refl
+  columns-read = L .0 .inside 1 4 (omega arith) refl
 
-  weight-read : (i : ℕ) → i < cellsOf g → getD (g .weights) i 0 ≡ wordAt l (weightOffset i)
+  weight-read : (i : ℕ) → i < cellsOf g → getD (g .weights) i 0 ≡ wordAt l (weightsOffset + 2 * i)
   weight-read i b =
       omega (
         arith,
         weights-read (g .weights) i (omega (arith, v .weights-len)),
-        L .weights .inside (2 * i) (15 + 2 * i) (omega arith) (omega arith),
-        L .weights .inside (2 * i + 1) (15 + 2 * i + 1) (omega arith) (omega arith),
+        L .1 .1 .0 .inside (2 * i) (15 + 2 * i) (omega arith) (omega arith),
+        L .1 .1 .0 .inside (2 * i + 1) (15 + 2 * i + 1) (omega arith) (omega arith),
       )
 
   laid-reads : gaugeIn l ≡ g
@@ -300,7 +220,7 @@ module _ (g : Gauge) (l : List ℕ) (v : Values g) (h : natAbs (g .wedge) ≤ we
       record {
         rows = rows-read k;
         columns = columns-read k;
-        ceiling = long-inside (L .ceiling) ceilingOffset refl k;
+        ceiling = long-inside (L .1 .0) ceilingOffset refl k;
         weights = weights k;
         thicknesses = thicknesses k;
         wedge = wedge k;
@@ -313,17 +233,38 @@ module _ (g : Gauge) (l : List ℕ) (v : Values g) (h : natAbs (g .wedge) ≤ we
       thicknesses =
           rw (rows-read, columns-read)
           (sym (tabulate-is _ _ 0 (g .thicknesses) (v .thicknesses-len)
-          (λ j b. sym (L .thicknesses .inside j (thicknessOffset (cellsOf g) j) b (omega arith)))))
+          (λ j b. sym (L .1 .1 .1 .0 .inside j (thicknessesOffset (cellsOf g) + j) b refl))))
 
       wedge : gaugeIn l .wedge ≡ g .wedge
       wedge =
-          rw (rows-read, columns-read, long-inside (L .wedge) (wedgeOffset (cellsOf g) (ringOf g)) (omega arith))
+          rw (rows-read, columns-read, long-inside (L .1 .1 .1 .1 .0) (wedgeOffset (cellsOf g) (ringOf g)) refl)
           (signed-reads (g .wedge) h)
+
+-- where the fields stand in a file, and the numbers in it have passed their tests, so has the walk
+fields-walk : (g : Gauge) (l : List ℕ) → Laid (fieldsOf (gaugeIn l)) (bodies g) l 0 → NumbersPassed (gaugeIn l) → Passes (fieldsOf (gaugeIn l)) l 0
+fields-walk g l L p = (
+  L .0 .passes,
+  p .shape,
+  (
+    L .1 .0 .passes,
+    p .ceiling,
+    (
+      L .1 .1 .0 .passes,
+      sym (weights-alike l (cellsIn l) weightsOffset) ∙ p .weights,
+      (
+        L .1 .1 .1 .0 .passes,
+        sym (thicknesses-alike l (ringIn l) (thicknessesOffset (cellsIn l))) ∙ p .thicknesses,
+        (L .1 .1 .1 .1 .0 .passes, p .wedge, tt),
+      ),
+    ),
+  ),
+)
 
 -- The writer's file has the length that document 01 gives it, ..
 pub file-length : (g : Gauge) → Values g
     → length (fileOf g) ≡ endOffset (cells (g .rows) (g .columns)) (ringed (g .rows) (g .columns))
-file-length g v = laid g v .len
+unfolding fileOf
+file-length g v = sym (zero-add _) ∙ bytes-length (fieldsOf g) (bodies g) 0 (bodies-fit g v)
 
 -- .. and reads back to the film's numbers.
 pub written-reads : (g : Gauge) → Values g → gaugeCheck g true ≡ pass → readFilm (fileOf g) ≡ accepted g
@@ -331,19 +272,14 @@ unfolding fileCheck
 written-reads g v e =
     let l = fileOf g in
     let p = gauge-passes g e in
-    let L = laid g v in
+    let L = file-laid g v in
     let same : gaugeIn l ≡ g = laid-reads g l v (wedge-low (p .numbers)) L in
-    let fields : Fields l (cellsOf g) (ringOf g) =
-    record {
-      shape = L .shape .passes;
-      ceiling = L .ceiling .passes;
-      weights = L .weights .passes;
-      thicknesses = L .thicknesses .passes;
-      wedge = L .wedge .passes;
-      ends = rw (le-ltb (endOffset (cellsOf g) (ringOf g)) (length l) (omega (arith, L .len)));
-    } in
-    let passes : fileCheck l ≡ pass =
-    subst (λ (h : Gauge). fieldsCheck l h (cellsOf h) (ringOf h) ≡ pass) (sym same) (fields-tests l g fields p) in
+    let here : Laid (fieldsOf (gaugeIn l)) (bodies g) l 0 = subst (λ (h : Gauge). Laid (fieldsOf h) (bodies g) l 0) (sym same) L in
+    let passed : GaugePassed (gaugeIn l) = subst GaugePassed (sym same) p in
+    let walks = passes-walk (fieldsOf (gaugeIn l)) l 0 (fields-walk g l here (passed .numbers)) in
+    let end : length l ≡ endOffset (cellsIn l) (ringIn l) = file-length g v ∙ ap (λ (h : Gauge). endOffset (cellsOf h) (ringOf h)) (sym same) in
+    let ends : strayAt l (endOffset (cellsIn l) (ringIn l)) ≡ pass = rw (le-ltb (endOffset (cellsIn l) (ringIn l)) (length l) (omega (arith, end))) in
+    let passes : fileCheck l ≡ pass = pass-both (pass-both walks ends) (passed .dominant) in
     rw passes (ap accepted same)
 
 -- ---- the writer's file consists of bytes
@@ -374,11 +310,18 @@ weights-bytes : (ws : List ℕ) → ((i : ℕ) → getD ws i 0 < 65536) → Byte
 weights-bytes [] h = bytes-nil
 weights-bytes (w ∷ ws) h = bytes-append (word w) (weightBytes ws) (word-bytes w (h 0)) (weights-bytes ws (λ i. h (suc i)))
 
--- after some bytes, a field
-field-bytes : (p : List ℕ) (tag size : ℕ) (body : List ℕ) → tag < 256 → size < 65536 → Bytes body → Bytes p
-    → Bytes (p ++ field tag size body)
-field-bytes p tag size body h k b a =
-    bytes-append p (field tag size body) a (bytes-cons h (bytes-append (word size) body (word-bytes size k) b))
+-- a list of fields
+abbrev Narrow : List Field → List (List ℕ) → Type 0
+Narrow [] bs = Unit {0}
+Narrow (f ∷ fs) [] = Unit {0}
+Narrow (f ∷ fs) (b ∷ bs) = (f .tag < 256) × (f .size < 65536) × Bytes b × Narrow fs bs
+
+fields-bytes : (fs : List Field) (bs : List (List ℕ)) → Narrow fs bs → Bytes (bytesOf fs bs)
+fields-bytes [] bs n = bytes-nil
+fields-bytes (f ∷ fs) [] n = bytes-nil
+fields-bytes (f ∷ fs) (b ∷ bs) n =
+    bytes-append (field (f .tag) (f .size) b) (bytesOf fs bs)
+    (bytes-cons (n .0) (bytes-append (word (f .size)) b (word-bytes (f .size) (n .1)) (n .2))) (fields-bytes fs bs (n .3))
 
 -- a wedge number within its limits has 32 bits
 wedge-long : (z : ℤ) → natAbs z ≤ wedgeLimit → unsignedOf z < 4294967296
@@ -392,54 +335,28 @@ file-bytes g v e =
     let p = gauge-passes g e in
     let s = gauge-shape g (p .numbers .shape) in
     let count : cellsOf g ≤ sideLimit * sideLimit = mul-le-mul (s .rows-low) (s .columns-low) in
-    field-bytes _ 5 4 _ (omega arith) (omega arith) (long-bytes _ (wedge-long (g .wedge) (wedge-low (p .numbers))))
-    (field-bytes _ 4 (ringOf g) _ (omega arith) (omega arith) (record { byte = v .thickness-byte })
-    (field-bytes _ 3 (2 * cellsOf g) _ (omega arith) (omega arith) (weights-bytes (g .weights) (v .weight-word))
-    (field-bytes _ 2 4 _ (omega arith) (omega arith) (long-bytes (g .ceiling) (v .ceiling-long))
-    (field-bytes [] 1 2 _ (omega arith) (omega arith) (bytes-cons (omega arith) (bytes-cons (omega arith) bytes-nil)) bytes-nil))))
+    let shape : Bytes (g .rows ∷ g .columns ∷ []) = bytes-cons (omega arith) (bytes-cons (omega arith) bytes-nil) in
+    let wedge = long-bytes _ (wedge-long (g .wedge) (wedge-low (p .numbers))) in
+    fields-bytes (fieldsOf g) (bodies g) (
+      omega arith,
+      omega arith,
+      shape,
+      (
+        omega arith,
+        omega arith,
+        long-bytes (g .ceiling) (v .ceiling-long),
+        (
+          omega arith,
+          omega arith,
+          weights-bytes (g .weights) (v .weight-word),
+          (omega arith, omega arith, record { byte = v .thickness-byte }, (omega arith, omega arith, wedge, tt)),
+        ),
+      ),
+    )
 
 -- ---- what was read is written back
 
--- a list by index, in two parts
-tabulate-add : (a b : ℕ) (f : ℕ → ℕ) → tabulate (a + b) f ≡ tabulate a f ++ tabulate b (λ j. f (a + j))
-tabulate-add zero b f = simp zero-add
-tabulate-add (suc a) b f = simp suc-add (ap (λ r. f 0 ∷ r) (tabulate-add a b (λ j. f (suc j))))
-
--- what a field's passed tests say
-pub record Header (l : List ℕ) (at tag size : ℕ) : Type 0 where
-  pub tag-is : byteAt l at ≡ tag
-  pub size-is : wordAt l (at + 1) ≡ size
-  pub fits : at + 3 + size ≤ length l
-
-pub header : (l : List ℕ) (at tag size : ℕ) → fieldAt l at tag size ≡ pass → Header l at tag size
-unfolding fieldAt
-header l at tag size e =
-    let a = orElse-parts (failIf (ltb (length l) (at + 3)) 1 (length l)) _ e in
-    let b = orElse-parts (failIf (not (eqb (byteAt l at) tag)) 2 at) _ (a .1) in
-    let c = orElse-parts (failIf (not (eqb (wordAt l (at + 1)) size)) 3 at) _ (b .1) in
-    record {
-      tag-is = eqb-true _ _ (not-false _ (failIf-pass _ 2 at (b .0)));
-      size-is = eqb-true _ _ (not-false _ (failIf-pass _ 3 at (c .0)));
-      fits = ltb-false _ _ (failIf-pass _ 1 (length l) (c .1));
-    }
-
 module _ {l : List ℕ} (B : Bytes l) where
-  -- a file up to the end of a field is the file up to its start, and the field: the field starts at `at` and its body at `from`
-  upTo : {at tag size : ℕ} → Header l at tag size → (from next : ℕ) → at + 3 ≡ from → from + size ≡ next → {front body : List ℕ}
-      → tabulate at (byteAt l) ≡ front → tabulate size (λ j. byteAt l (from + j)) ≡ body
-      → tabulate next (byteAt l) ≡ front ++ field tag size body
-  upTo {at} {tag} {size} H from next e f {front} {body} before inside =
-      let end : next ≡ at + (3 + size) = omega arith in
-      let b0 : byteAt l (at + 0) ≡ tag = ap (byteAt l) (add-zero at) ∙ H .tag-is in
-      let second : byteAt l (at + 2) ≡ byteAt l (at + 1 + 1) = ap (byteAt l) (omega arith) in
-      let b1 : byteAt l (at + 1) ≡ size / 256 = omega (arith, B .byte (at + 1 + 1)) in
-      let b2 : byteAt l (at + 2) ≡ size % 256 = omega (arith, B .byte (at + 1 + 1)) in
-      let place : (j : ℕ) → at + (3 + j) ≡ from + j = λ j. omega arith in
-      ap (λ k. tabulate k (byteAt l)) end
-      ∙ tabulate-add at (3 + size) (byteAt l)
-      ∙ ap₂ _++_ before (tabulate-add 3 size (λ j. byteAt l (at + j))
-      ∙ (λ k. b0 k ∷ b1 k ∷ b2 k ∷ ((λ k. tabulate size (λ j. byteAt l (place j k))) ∙ inside) k))
-
   -- four bytes of the file are those of the number read from them
   long-from : (from : ℕ) → tabulate 4 (λ j. byteAt l (from + j)) ≡ long (longAt l from)
   long-from from =
@@ -448,6 +365,10 @@ module _ {l : List ℕ} (B : Bytes l) where
       ∙ sym (long-writes (byteAt l from) (byteAt l (from + 1)) (byteAt l (from + 2)) (byteAt l (from + 2 + 1))
       (B .byte (from + 1)) (B .byte (from + 2)) (B .byte (from + 2 + 1)))
 
+  -- and so with weights
+  weights-from : (from n : ℕ) → tabulate (2 * n) (λ j. byteAt l (from + j)) ≡ weightBytes (tabulate n (λ i. wordAt l (from + 2 * i)))
+  weights-from from n = simp add-assoc (sym (weights-write n (λ j. byteAt l (from + j)) (λ j. B .byte (from + j))))
+
   -- numbers of two and of four bytes have their widths
   word-low : (from : ℕ) → wordAt l from < 65536
   word-low from = omega (arith, B .byte from, B .byte (from + 1))
@@ -455,24 +376,22 @@ module _ {l : List ℕ} (B : Bytes l) where
   long-low : (from : ℕ) → longAt l from < 4294967296
   long-low from = omega (arith, word-low from, word-low (from + 2))
 
-  -- the whole file: five fields
-  fields-write : Fields l (cellsOf (gaugeIn l)) (ringOf (gaugeIn l)) → fileOf (gaugeIn l) ≡ l
+  -- the bodies that stand in the file are those of the numbers read from them
+  bodies-in : bodiesIn (fieldsOf (gaugeIn l)) l 0 ≡ bodies (gaugeIn l)
+  bodies-in =
+      let at = wedgeOffset (cellsIn l) (ringIn l) in
+      let weights = weights-from weightsOffset (cellsIn l) in
+      let wedge = long-from at ∙ ap long (sym (signed-writes _ (long-low at))) in
+      λ k.
+      (gaugeIn l .rows ∷ gaugeIn l .columns ∷ []) ∷ long-from ceilingOffset k ∷ weights k ∷ gaugeIn l .thicknesses ∷ wedge k ∷ []
+
+  -- so the whole file is its fields
+  fields-write : FilePassed l → fileOf (gaugeIn l) ≡ l
   unfolding fileOf
   fields-write F =
-      let n = cellsOf (gaugeIn l) in
-      let t = ringOf (gaugeIn l) in
-      let weights : tabulate (2 * n) (λ j. byteAt l (15 + j)) ≡ weightBytes (gaugeIn l .weights) =
-      simp add-assoc (sym (weights-write n (λ j. byteAt l (15 + j)) (λ j. B .byte (15 + j)))) in
-      let wedge = long-from (21 + 2 * n + t) ∙ ap long (sym (signed-writes _ (long-low (21 + 2 * n + t)))) in
-      let first = upTo (header l 0 1 2 (F .shape)) 3 5 refl refl refl refl in
-      let second = upTo (header l 5 2 4 (F .ceiling)) 8 12 refl refl first (long-from 8) in
-      let third = upTo (header l 12 3 (2 * n) (F .weights)) 15 (15 + 2 * n) refl refl second weights in
-      let fourth = upTo (header l (15 + 2 * n) 4 t (F .thicknesses)) (18 + 2 * n) (18 + 2 * n + t) (omega arith) refl third refl in
-      let last = header l (18 + 2 * n + t) 5 4 (F .wedge) in
-      let fifth = upTo last (21 + 2 * n + t) (25 + 2 * n + t) (omega arith) (omega arith) fourth wedge in
-      let above : length l ≤ 25 + 2 * n + t = ltb-false _ _ (failIf-pass _ 2 _ (F .ends)) in
-      let len : length l ≡ 25 + 2 * n + t = omega (arith, last .fits) in
-      sym (tabulate-is (25 + 2 * n + t) (byteAt l) 0 l len (λ i h. refl) ∙ fifth)
+      let fs = fieldsOf (gaugeIn l) in
+      let len : length l ≡ endOf fs 0 = omega (arith, F .ends, passes-end fs l 0 (F .fields) (omega arith)) in
+      ap (bytesOf fs) (sym bodies-in) ∙ sym (walked B fs 0 (F .fields)) ∙ sym (tabulate-is (endOf fs 0) (byteAt l) 0 l len (λ i h. refl))
 
   -- the numbers in the file have the lengths and widths that calls ask for
   fields-values : Values (gaugeIn l)
@@ -481,8 +400,8 @@ module _ {l : List ℕ} (B : Bytes l) where
         weights-len = tabulate-length _ _;
         thicknesses-len = tabulate-length _ _;
         ceiling-long = long-low ceilingOffset;
-        weight-word = tabulate-below (cellsOf (gaugeIn l)) _ 65536 (omega arith) (λ i. word-low (weightOffset i));
-        thickness-byte = tabulate-below (ringOf (gaugeIn l)) _ 256 (omega arith) (λ j. B .byte (thicknessOffset (cellsOf (gaugeIn l)) j));
+        weight-word = tabulate-below (cellsIn l) _ 65536 (omega arith) (λ i. word-low (weightsOffset + 2 * i));
+        thickness-byte = tabulate-below (ringIn l) _ 256 (omega arith) (λ j. B .byte (thicknessesOffset (cellsIn l) + j));
       }
     where
       tabulate-below : (n : ℕ) (f : ℕ → ℕ) (k : ℕ) → 0 < k → ((i : ℕ) → f i < k) → (i : ℕ) → getD (tabulate n f) i 0 < k
@@ -492,27 +411,26 @@ module _ {l : List ℕ} (B : Bytes l) where
 
 -- an accepted file has passed its tests, and its numbers are those that stand in it
 record ReadAs (l : List ℕ) (g : Gauge) : Type 0 where
-  fields : Fields l (cellsOf (gaugeIn l)) (ringOf (gaugeIn l))
-  passed : GaugePassed (gaugeIn l)
+  passed : FilePassed l
   same : gaugeIn l ≡ g
 
 read-as : (l : List ℕ) (g : Gauge) → readFilm l ≡ accepted g → ReadAs l g
-unfolding fileCheck
 read-as l g e = go (fileCheck l) refl e
   where
     go : (c : Check) → fileCheck l ≡ c → readBy c l ≡ accepted g → ReadAs l g
-    go pass f e = let t = fields-pass l (gaugeIn l) f in record { fields = t .0; passed = t .1; same = cc }
+    go pass f e = record { passed = file-passes l f; same = cc }
     go (fail number place) f e = let z : _≡_ {A = ℕ} 0 1 = cc in absurd (omega arith)
 
 -- Writing what was read gives the file's own bytes, ..
 pub read-writes : (bytes : List ℕ) (g : Gauge) → Bytes bytes → readFilm bytes ≡ accepted g → fileOf g ≡ bytes
-read-writes bytes g B e = let r = read-as bytes g e in ap fileOf (sym (r .same)) ∙ fields-write B (r .fields)
+read-writes bytes g B e = let r = read-as bytes g e in ap fileOf (sym (r .same)) ∙ fields-write B (r .passed)
 
 -- .. and what was read passes the tests of the calls that take a film's numbers.
 pub read-values : (bytes : List ℕ) (g : Gauge) → Bytes bytes → readFilm bytes ≡ accepted g → Values g × (gaugeCheck g true ≡ pass)
 read-values bytes g B e =
     let r = read-as bytes g e in
-    subst (λ (h : Gauge). Values h × (gaugeCheck h true ≡ pass)) (r .same) (fields-values B, gauge-tests (gaugeIn bytes) (r .passed))
+    subst (λ (h : Gauge). Values h × (gaugeCheck h true ≡ pass)) (r .same)
+    (fields-values B, gauge-tests (gaugeIn bytes) (r .passed .passed))
 
 -- ---- film F
 

@@ -1,23 +1,24 @@
 -- The bridge from signed slack to naturals; and that a film's feasible fields and least field are those of its rule in the theory.
 use mathlib.Core.Path.{_≡_, refl, sym, ap, _∙_}
 use mathlib.Core.Logic.{_↔_, ⊎-elim}
-use mathlib.Core.Bool.{false}
+use mathlib.Core.Bool.{true, false}
 use mathlib.Core.List.{List}
 use Prim.Native.Nat.{ℕ, _+_, _*_, _≤_, _<_}
 use native.Mathlib.Nat.{le-antisymm}
 use native.Mathlib.Omega.{arith}
-use borrow.Author.Tests.{ltb-false, le-ltb}
+use borrow.Author.Tests.{leb-true, ltb-false, le-ltb}
 use lib.Dec.{leb, ltb}
 use lib.IntN.{ℤ}
 use lib.ListN.{length, getD}
 use lib.Seq.{ext-getD}
+use Rattle.monotone.specs.Field.{_⊑_}
 use Rattle.monotone.specs.Rule as theory
-use Rattle.monotone.specs.Linear.{ruleOf, Positive}
+use Rattle.monotone.specs.Linear.{Positive, Dominant}
 use Rattle.monotone.proofs.Order.{⊑-cells}
-use Rattle.monotone.proofs.Linear.{required-enough, required-least, linear-monotone}
+use Rattle.monotone.proofs.Linear.{required-enough, required-least, linear-monotone, proposal-rises}
 use Rattle.monotone.proofs.History.{least-or-none}
 use Rattle.model.specs.Integers.{negative, atMostZero, lift, drop}
-use Rattle.model.specs.Film.{Film, sizeOf, slackOf, Feasible, Least, LeastFrom, systemOf}
+use Rattle.model.specs.Film.{Film, sizeOf, diagonalAt, sourceAt, pullOf, slackOf, slack, Feasible, Least, LeastFrom, systemOf, rule}
 use Rattle.model.specs.Relaxation.{requiredFor}
 use Rattle.model.proofs.Integers.{sub-source, negative-sub, atMostZero-sub}
 use Rattle.model.proofs.Lists.{getD-low}
@@ -45,15 +46,19 @@ bounded-cells {F} {p} e h = record { len = e; low = getD-low p (F .size) (F .cei
 
 -- a film whose diagonals are all positive
 module _ (f : Film) (P : Positive (systemOf f)) where
+  -- a higher field requires no less
+  pub rule-monotone : theory.Monotone (rule f)
+  rule-monotone = linear-monotone (systemOf f) P
+
   -- a field meets the film exactly where it is feasible in the theory
-  pub feasible-to : {p : List ℕ} → Feasible f p → theory.Feasible (ruleOf (systemOf f)) p
+  pub feasible-to : {p : List ℕ} → Feasible f p → theory.Feasible (rule f) p
   feasible-to m =
       record {
         bounded = bounded-cells (m .len) (m .low);
         met = λ i h. (required-slack _ _ _ _ (P .diagonal i h)) .0 (m .met i h);
       }
 
-  pub feasible-from : {p : List ℕ} → theory.Feasible (ruleOf (systemOf f)) p → Feasible f p
+  pub feasible-from : {p : List ℕ} → theory.Feasible (rule f) p → Feasible f p
   feasible-from m =
       record {
         len = m .bounded .len;
@@ -62,7 +67,7 @@ module _ (f : Film) (P : Positive (systemOf f)) where
       }
 
   -- the theory's least field is document 01's: it takes the lowest pressure of each cell itself
-  pub least-is : {q : List ℕ} → theory.Least (ruleOf (systemOf f)) q → Least f q
+  pub least-is : {q : List ℕ} → theory.Least (rule f) q → Least f q
   least-is {q} L =
       record {
         len = L .feasible .bounded .len;
@@ -71,7 +76,7 @@ module _ (f : Film) (P : Positive (systemOf f)) where
       }
 
   -- and so is its least field at or above a start
-  pub least-from : {p q : List ℕ} → length p ≡ sizeOf f → theory.LeastAbove (ruleOf (systemOf f)) p q → LeastFrom f p q
+  pub least-from : {p q : List ℕ} → length p ≡ sizeOf f → theory.LeastAbove (rule f) p q → LeastFrom f p q
   least-from {p} {q} e L =
       record {
         meets = feasible-from (L .feasible);
@@ -92,7 +97,7 @@ module _ (f : Film) (P : Positive (systemOf f)) where
   pub least-exists : {z : List ℕ} → Feasible f z → (q : List ℕ) × Least f q × Feasible f q
   least-exists {z} m =
       ⊎-elim (λ l. (l .0, least-is (l .1), feasible-from (l .1 .feasible))) (λ n. absurd (n z (feasible-to m)))
-      (least-or-none (ruleOf (systemOf f)) (linear-monotone (systemOf f) P))
+      (least-or-none (rule f) rule-monotone)
 
   -- so does what document 01 calls the least field: its lowest pressures are taken by fields that meet the film, and it is the only one
   pub least-feasible : {q : List ℕ} → Least f q → Feasible f q
@@ -100,3 +105,11 @@ module _ (f : Film) (P : Positive (systemOf f)) where
       let t = L .taken 0 (P .some) in
       let l = least-exists (t .1) in
       rw (least-one L (l .1)) (l .2)
+
+-- A film whose weights show that its matrix is Minkowski: a field that is above p only in cells whose slack is then at most 0 is nowhere above a
+-- satisfied field at or above p.
+pub rule-rises : (f : Film) (w : ℕ → ℕ) → Dominant (systemOf f) w → {p q : List ℕ} → theory.Bounded (rule f) q → p ⊑ q
+    → ((i : ℕ) → i < sizeOf f → getD p i 0 < getD q i 0 → atMostZero (slack f q i) ≡ true) → theory.Rises (rule f) p q
+rule-rises f w D {p} {q} B up tight =
+    proposal-rises (systemOf f) w D B up
+    (λ i b h. leb-true _ _ (sym (slack-atMostZero (diagonalAt f i) (pullOf f q i) (sourceAt f i) (getD q i 0)) ∙ tight i b h))

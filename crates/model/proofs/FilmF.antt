@@ -8,7 +8,8 @@ use Rattle.model.specs.Margin.{margin}
 use Rattle.model.specs.Proposal.{raisedBy, riseCount, withinCeiling, tight, propose}
 use Rattle.model.specs.Estimate.{eliminate, substitute, floorOf, wholePart, eliminated, solved, estimate}
 use Rattle.model.specs.Run.{orderOf, readied, run, proposeOwn, proposeLines}
-use Rattle.model.specs.File.{fileCheck, fieldAt, gaugeDominance}
+use Rattle.model.specs.Fields.{fieldAt}
+use Rattle.model.specs.File.{fileCheck, gaugeDominance}
 use Rattle.model.specs.Report.{digits, peakOf, cellLines}
 use lib.Ieee.{add, sub, mul, div, lt, le, ofInt, eq, sum, neg, round, size, span, climb, units, odd}
 use lib.Count.{trailingZeros}

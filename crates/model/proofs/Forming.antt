@@ -13,14 +13,13 @@ use lib.ListN.{length, getD}
 use Rattle.model.specs.Limits.{sideLimit, ceilingLimit, thicknessLimit, wedgeLimit, diagonalLimit, linkLimit, sourceLimit}
 use Rattle.model.specs.Lists.{tabulate, firstOf}
 use Rattle.monotone.specs.Rule.{Bounded}
-use Rattle.monotone.specs.Linear.{ruleOf}
 use Rattle.model.specs.Refusals.{Check, pass, _orElse_, failFirst}
 use Rattle.model.specs.Gauge.{Gauge, thicknessAt}
-use Rattle.model.specs.Film.{Film, sizeOf, weightAt, systemOf}
+use Rattle.model.specs.Film.{Film, sizeOf, weightAt, rule}
 use Rattle.model.specs.Coefficients.{linkOf, formedDiagonal, formedRight, formedUp, formedSource, byCell, formed}
 use Rattle.model.specs.Checks.{outside, filmFits, badCoefficient, zeroWeight, notDominant, sizeCheck, coefficientCheck, weightCheck, dominanceCheck, startCheck, numericCheck, filmCheck, fieldCheck}
 use Rattle.model.specs.Accepted.{Sized, LimitedCell, Limited, Accepted}
-use Rattle.model.specs.File.{cells, ringed, ceilingOffset, weightOffset, thicknessOffset, gaugeDominance, readFilm, accepted, gaugeCheck, Bytes, Values}
+use Rattle.model.specs.File.{cells, ringed, ceilingOffset, weightsOffset, thicknessesOffset, gaugeDominance, readFilm, accepted, gaugeCheck, Bytes, Values}
 use Rattle.model.proofs.Integers.{sub-pos, sub-lt, sub-le, by-order}
 use Rattle.model.proofs.Lists.{tabulate-length, tabulate-at, first-hit}
 use Rattle.model.proofs.Checks.{within, failIf-pass, failFirst-pass}
@@ -86,7 +85,7 @@ pub accepted-passes : (f : Film) → Accepted f → filmCheck f ≡ pass
 accepted-passes f A = accepted-rest f A pass pass pass
 
 -- a field of such a film passes too
-pub field-accepted : (f : Film) (p : List ℕ) (order place : Check) → Accepted f → Bounded (ruleOf (systemOf f)) p
+pub field-accepted : (f : Film) (p : List ℕ) (order place : Check) → Accepted f → Bounded (rule f) p
     → fieldCheck f p true order place ≡ (order orElse place)
 field-accepted f p order place A B =
     rw (
@@ -145,7 +144,7 @@ module _ (g : Gauge) (p : NumbersPassed g) where
   thickness-limits r c h =
       within (thicknessAt g r c) 1 thicknessLimit
       (failFirst-pass (λ j. outside (getD (g .thicknesses) j 0) 1 thicknessLimit) (ringed (g .rows) (g .columns)) 7
-      (thicknessOffset (cells (g .rows) (g .columns))) (p .thicknesses) (r * (g .columns + 2) + c) (digits-lt (h .0) (h .1)))
+      (λ j. thicknessesOffset (cells (g .rows) (g .columns)) + j) (p .thicknesses) (r * (g .columns + 2) + c) (digits-lt (h .0) (h .1)))
 
   -- the cell in row r and column c, counted from 1: its link to (s, d), of the grid or the ring, and what is formed from its links
   module _ (r c : ℕ) (w : (r ≤ g .rows) × (c ≤ g .columns)) where
@@ -220,7 +219,7 @@ unfolding gaugeDominance notDominant
 formed-accepted g v e =
     let p = gauge-passes g e in
     let n = cells (g .rows) (g .columns) in
-    let none = failFirst-pass (λ i. eqb (getD (g .weights) i 0) 0) n 6 weightOffset (p .numbers .weights) in
+    let none = failFirst-pass (λ i. eqb (getD (g .weights) i 0) 0) n 6 (λ i. weightsOffset + 2 * i) (p .numbers .weights) in
     record {
       limited = formed-limited g (p .numbers) (v .weights-len);
       weight = λ i h. omega (arith, eqb-false (getD (g .weights) i 0) 0 (none i h));

@@ -6,12 +6,14 @@ pub mod Checks
 pub mod Sides
 pub mod Reynolds
 pub mod Proposal
+pub mod Bare
 pub mod Acceptance
 pub mod Estimate
 pub mod Run
 pub mod Refused
 pub mod History
 pub mod Demand
+pub mod Fields
 pub mod File
 pub mod Prefix
 pub mod Forming

@@ -102,6 +102,12 @@ module _ (test : ℕ → Bool) where
       go (hit l t) = omega arith
       go (miss e m) = omega arith
 
+-- tests that agree below n find the same
+pub first-same : (test other : ℕ → Bool) (n : ℕ) → ((i : ℕ) → i < n → test i ≡ other i) → firstOf test n ≡ firstOf other n
+unfolding firstOf
+first-same test other zero h = refl
+first-same test other (suc n) h = rw (first-same test other n (λ i l. h i (omega arith)), h n (omega arith))
+
 -- A test of all numbers below n, and a count of those that pass: one number more, as a loop goes on.
 module _ (test : ℕ → Bool) where
   pub all-more : (n : ℕ) → allBelow test n ≡ true → test n ≡ true → allBelow test (n + 1) ≡ true

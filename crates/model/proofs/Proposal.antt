@@ -10,15 +10,13 @@ use lib.Dec.{leb, ltb}
 use lib.ListN.{length, getD, List·getD-eq-default}
 use Rattle.monotone.specs.Field.{_⊑_}
 use Rattle.monotone.specs.Rule.{Bounded, Rises}
-use Rattle.monotone.specs.Linear.{load, bearing, ruleOf}
 use Rattle.monotone.proofs.Order.{⊑-cells, rises-refl}
-use Rattle.monotone.proofs.Linear.{proposal-rises}
 use Rattle.model.specs.Lists.{allBelow}
 use Rattle.model.specs.Integers.{atMostZero}
-use Rattle.model.specs.Film.{Film, sizeOf, diagonalAt, sourceAt, weightAt, pullOf, slack, systemOf}
+use Rattle.model.specs.Film.{Film, sizeOf, weightAt, slack, rule}
 use Rattle.model.specs.Proposal.{raisedAt, raisedBy, rises, riseCount, withinCeiling, tight, accepts, decide, propose}
 use Rattle.model.proofs.Lists.{tabulate-length, tabulate-at, all-at}
-use Rattle.model.proofs.Film.{slack-atMostZero, bounded-cells}
+use Rattle.model.proofs.Film.{bounded-cells, rule-rises}
 use Rattle.model.specs.Accepted.{Accepted}
 use Rattle.model.proofs.Checks.{and-parts, accepted-dominant}
 
@@ -46,14 +44,14 @@ module _ (f : Film) (start : ℕ) (p q : List ℕ) (L : Lifted f start p q) (e :
   unfolding withinCeiling
   rise-low i b h = leb-true _ _ (row-test (λ j. leb (getD q j 0) (f .ceiling)) start (f .columns) (tests .0) i (L .row i b h))
 
-  rise-tight : (i : ℕ) → i < sizeOf f → getD p i 0 < getD q i 0 → bearing (systemOf f) q i ≤ load (systemOf f) q i
+  rise-tight : (i : ℕ) → i < sizeOf f → getD p i 0 < getD q i 0 → atMostZero (slack f q i) ≡ true
   unfolding tight
   rise-tight i b h =
-      let t = row-test (λ j. not (rises p q j) || atMostZero (slack f q j)) start (f .columns) (tests .1) i (L .row i b h) in
-      leb-true _ _ (sym (slack-atMostZero (diagonalAt f i) (pullOf f q i) (sourceAt f i) (getD q i 0)) ∙ (rw (lt-ltb _ _ h) at t))
+      rw (lt-ltb _ _ h) at
+      (row-test (λ j. not (rises p q j) || atMostZero (slack f q j)) start (f .columns) (tests .1) i (L .row i b h))
 
-  accepted-rises : Accepted f → Bounded (ruleOf (systemOf f)) p → Rises (ruleOf (systemOf f)) p q
-  accepted-rises A B = proposal-rises (systemOf f) (weightAt f) (accepted-dominant A) (bounded-cells (L .len) low) (L .up) rise-tight
+  accepted-rises : Accepted f → Bounded (rule f) p → Rises (rule f) p q
+  accepted-rises A B = rule-rises f (weightAt f) (accepted-dominant A) (bounded-cells (L .len) low) (L .up) rise-tight
     where
       low : (i : ℕ) → i < sizeOf f → getD q i 0 ≤ f .ceiling
       low i b = elim (decLt (getD p i 0) (getD q i 0)) [ yes h ↦ rise-low i b h | no h ↦ omega (arith, B .low i) ]
@@ -84,12 +82,12 @@ module _ (f : Film) (start : ℕ) (proposal p : List ℕ) where
       }
 
   -- any proposal of C numbers, for the cells from `start` on
-  pub propose-rises : Accepted f → Bounded (ruleOf (systemOf f)) p → length proposal ≡ f .columns
-      → Rises (ruleOf (systemOf f)) p (propose f start proposal p .lent)
+  pub propose-rises : Accepted f → Bounded (rule f) p → length proposal ≡ f .columns
+      → Rises (rule f) p (propose f start proposal p .lent)
   unfolding propose
   propose-rises A B l = go (accepts f start p (raisedBy f start proposal p)) refl
     where
       go : (t : Bool) → accepts f start p (raisedBy f start proposal p) ≡ t
-          → Rises (ruleOf (systemOf f)) p (decide t f start p (raisedBy f start proposal p) .lent)
+          → Rises (rule f) p (decide t f start p (raisedBy f start proposal p) .lent)
       go true e = accepted-rises f start p _ (raised-lifted l (B .len)) e A B
       go false e = rises-refl B

@@ -7,11 +7,10 @@ use Prim.Native.Nat.{ℕ}
 use lib.IntN.{ℤ}
 use lib.Dec.{eqb}
 use lib.ListN.{length, getD}
-use Rattle.monotone.specs.Linear.{ruleOf}
 use Rattle.monotone.specs.Sweep as theory
 use Rattle.model.specs.Refusals.{Check, pass, fail}
 use Rattle.model.specs.Gauge.{Gauge}
-use Rattle.model.specs.Film.{Film, systemOf}
+use Rattle.model.specs.Film.{Film, rule}
 use Rattle.model.specs.Checks.{fieldCheck, orderCheck, lineCheck}
 use Rattle.model.specs.Result.{Gives}
 use Rattle.model.specs.Relaxation.{RelaxAnswer, required, relaxedTo, relaxBy, visitCheck, relaxCall}
@@ -68,7 +67,7 @@ module _ {number place : ℕ} where
       by : (x : Check) → RunAnswer.refused number place ≡ runBy x f budget order on p .answer → runBy x f budget order on p .lent ≡ p
       by pass e =
           let r = readied f budget on p in
-          let w = theory.sweep (ruleOf (systemOf f)) (ordering f order) budget (theory.begin (r .field)) in
+          let w = theory.sweep (rule f) (ordering f order) budget (theory.begin (r .field)) in
           answered (w .answer) (countsOf (w .last) (r .accepted)) (w .last .field) e
       by (fail n q) e = refl
 

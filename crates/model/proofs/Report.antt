@@ -10,11 +10,10 @@ use lib.Dec.{ltb}
 use lib.ListN.{length, getD, replicate, length-append}
 use Rattle.monotone.specs.Links.{pull}
 use Rattle.monotone.specs.Rule.{Bounded}
-use Rattle.monotone.specs.Linear.{ruleOf}
 use Rattle.monotone.proofs.History.{zeros-bounded}
 use Rattle.model.specs.Limits.{ceilingLimit, diagonalLimit, linkLimit}
 use Rattle.model.specs.Integers.{lift, drop}
-use Rattle.model.specs.Film.{Film, sizeOf, rowOf, columnOf, rightAt, upAt, diagonalAt, sourceAt, linkIf, beside, across, neighbours, pullOf, slack, systemOf}
+use Rattle.model.specs.Film.{Film, sizeOf, rowOf, columnOf, rightAt, upAt, diagonalAt, sourceAt, linkIf, beside, across, neighbours, pullOf, slack, rule}
 use Rattle.model.specs.Accepted.{Sized, Limited, Accepted}
 use Rattle.model.specs.Coefficients.{formed}
 use Rattle.model.specs.Run.{RunAnswer, done, stopped, over, refused}
@@ -94,7 +93,7 @@ pull-if : (b : Bool) (cell link most : ℕ) (x : ℕ → ℕ) → link * x cell 
 pull-if true cell link most x h = omega arith
 pull-if false cell link most x h = omega arith
 
-module _ (f : Film) (l : Limited f) (p : List ℕ) (B : Bounded (ruleOf (systemOf f)) p) where
+module _ (f : Film) (l : Limited f) (p : List ℕ) (B : Bounded (rule f) p) where
   -- a pressure
   pressure-low : (i : ℕ) → getD p i 0 ≤ ceilingLimit
   pressure-low i = omega (arith, B .low i, l .sized .ceiling-low)
@@ -254,7 +253,7 @@ text-length f (refused number place) p t h k = omega (arith, refused-length numb
 film-fits : (f : Film) → Accepted f → length (filmReport f) ≤ longestReport
 film-fits f A =
     let zeros : List ℕ = replicate (sizeOf f) 0 in
-    let good = run-good f A reportBudget 0 false zeros (zeros-bounded (ruleOf (systemOf f))) in
+    let good = run-good f A reportBudget 0 false zeros (zeros-bounded (rule f)) in
     omega (
       arith,
       length-append (headLine f) (answerText f (reportRun f .answer) (reportRun f .lent)),

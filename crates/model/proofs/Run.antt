@@ -11,14 +11,12 @@ use Rattle.monotone.specs.Rule.{Rule, Bounded, Rises, LeastAbove}
 use Rattle.monotone.specs.Ordering.{Permutes}
 use Rattle.monotone.specs.Sweep as theory
 use Rattle.monotone.specs.Outcome.{Says, Outcome}
-use Rattle.monotone.specs.Linear.{ruleOf}
 use Rattle.monotone.specs.History.{Verdict, Good, verdictOf}
 use Rattle.monotone.proofs.Order.{feasible-satisfied, rises-refl, rises-trans}
 use Rattle.monotone.proofs.Ordering.{permutes-up, permutes-down, permutes-split}
 use Rattle.monotone.proofs.Sweep.{sweep-outcome, Counted, sweep-counts}
-use Rattle.monotone.proofs.Linear.{linear-monotone}
 use Rattle.monotone.proofs.History.{good-sweep, call-visits}
-use Rattle.model.specs.Film.{Film, sizeOf, systemOf}
+use Rattle.model.specs.Film.{Film, sizeOf, rule}
 use Rattle.model.specs.Proposal.{lineStart}
 use Rattle.model.specs.Estimate.{estimate, estimateAt}
 use Rattle.model.specs.Run.{evenCell, orderOf, ordering, Readied, proposeOwn, proposeLines, readied, RunAnswer, done, stopped, over, refused, countsOf, endOf, run}
@@ -26,6 +24,7 @@ use Rattle.model.specs.History.{runVerdict}
 use Rattle.model.specs.declared.Counts.{Counts}
 use Rattle.model.proofs.Lists.{tabulate-length}
 use Rattle.model.specs.Accepted.{Accepted}
+use Rattle.model.proofs.Film.{rule-monotone}
 use Rattle.model.proofs.Checks.{accepted-positive}
 use Rattle.model.proofs.Proposal.{propose-rises}
 
@@ -74,7 +73,7 @@ raises-end theory.stopped s accepted = refl
 module _ (f : Film) (budget order : ℕ) (on : Bool) (p : List ℕ) where
   -- the counters where the run's sweep ends
   run-counts : Counted budget
-      (theory.sweep (ruleOf (systemOf f)) (ordering f order) budget (theory.begin (readied f budget on p .field)) .last)
+      (theory.sweep (rule f) (ordering f order) budget (theory.begin (readied f budget on p .field)) .last)
   run-counts = sweep-counts _ _ budget _
 
   -- no more relaxations than the budget, and no more raises than relaxations
@@ -108,35 +107,35 @@ over-end {F} {p} {budget} {r} O x c i e = over-says F p budget (r .answer) (r .l
 
 module _ (f : Film) (A : Accepted f) where
   -- the program's own proposal for a line, and for lines 1 to n
-  own-rises : (line : ℕ) (s : Readied) → Bounded (ruleOf (systemOf f)) (s .field)
-      → Rises (ruleOf (systemOf f)) (s .field) (proposeOwn f line s .field)
+  own-rises : (line : ℕ) (s : Readied) → Bounded (rule f) (s .field)
+      → Rises (rule f) (s .field) (proposeOwn f line s .field)
   unfolding proposeOwn
   own-rises line s B = propose-rises f _ _ _ A B (estimate-length f (s .field) (lineStart f line))
 
-  pub lines-rise : (n : ℕ) (s : Readied) → Bounded (ruleOf (systemOf f)) (s .field)
-      → Rises (ruleOf (systemOf f)) (s .field) (proposeLines f n s .field)
+  pub lines-rise : (n : ℕ) (s : Readied) → Bounded (rule f) (s .field)
+      → Rises (rule f) (s .field) (proposeLines f n s .field)
   unfolding proposeLines
   lines-rise zero s B = rises-refl B
   lines-rise (suc n) s B = let R = lines-rise n s B in rises-trans R (own-rises (suc n) (proposeLines f n s) (R .bounded))
 
   -- the proposals before the first relaxation
-  pub readied-rises : (budget : ℕ) (on : Bool) (p : List ℕ) → Bounded (ruleOf (systemOf f)) p
-      → Rises (ruleOf (systemOf f)) p (readied f budget on p .field)
+  pub readied-rises : (budget : ℕ) (on : Bool) (p : List ℕ) → Bounded (rule f) p
+      → Rises (rule f) p (readied f budget on p .field)
   unfolding readied
   readied-rises zero on p B = rises-refl B
   readied-rises (suc budget) true p B = lines-rise (f .rows) (record { field = p; accepted = 0 }) B
   readied-rises (suc budget) false p B = rises-refl B
 
-  module _ (budget order : ℕ) (on : Bool) (p : List ℕ) (B : Bounded (ruleOf (systemOf f)) p) where
+  module _ (budget order : ℕ) (on : Bool) (p : List ℕ) (B : Bounded (rule f) p) where
     -- the sweep of a run, from the readied field
-    run-outcome : Outcome (ruleOf (systemOf f)) (readied f budget on p .field) budget
-        (theory.sweep (ruleOf (systemOf f)) (ordering f order) budget (theory.begin (readied f budget on p .field)))
+    run-outcome : Outcome (rule f) (readied f budget on p .field) budget
+        (theory.sweep (rule f) (ordering f order) budget (theory.begin (readied f budget on p .field)))
     run-outcome =
-        sweep-outcome _ _ (linear-monotone (systemOf f) (accepted-positive A)) (order-permutes (f .columns) (sizeOf f) order) _ budget
+        sweep-outcome _ _ (rule-monotone f (accepted-positive A)) (order-permutes (f .columns) (sizeOf f) order) _ budget
         ((readied-rises budget on p B) .bounded)
 
     -- it is a good call
-    pub run-good : Good (ruleOf (systemOf f)) p (run f budget order on p .lent)
+    pub run-good : Good (rule f) p (run f budget order on p .lent)
         (runVerdict (sizeOf f) budget (run f budget order on p .answer))
     unfolding run
     run-good = rw verdict-end (good-sweep _ (readied-rises budget on p B) run-outcome)
@@ -148,7 +147,7 @@ module _ (f : Film) (A : Accepted f) where
 
     -- Done holds the least field at or above the start that meets the film
     pub run-done-least : (c : Counts) → run f budget order on p .answer ≡ done c
-        → LeastAbove (ruleOf (systemOf f)) p (run f budget order on p .lent)
+        → LeastAbove (rule f) p (run f budget order on p .lent)
     run-done-least c e = good-least (rw e at run-good)
 
     -- Over names a cell of the grid

@@ -1,4 +1,4 @@
--- Document 01, "The film file": its fields, what the reader refuses and in what order, and the file of a film.
+-- Document 01, "The film file": the fields of a film's file, what the reader refuses and in what order, and the file of a film.
 use mathlib.Core.Path.{_≡_}
 use mathlib.Core.Bool.{Bool, not}
 use mathlib.Core.List.{List, [], _∷_, _++_}
@@ -13,6 +13,7 @@ use Rattle.model.specs.Gauge.{Gauge}
 use Rattle.model.specs.Coefficients.{formed}
 use Rattle.model.specs.Checks.{outside, shapeCheck, ceilingCheck, notDominant}
 use Rattle.model.specs.Bytes.{byteAt, wordAt, longAt, signedOf, word, long, unsignedOf}
+use Rattle.model.specs.Fields.{Field, body, endOf, walk, strayAt, bytesOf}
 
 -- the number of cells, and of thicknesses with the boundary ring
 abbrev pub cells : ℕ → ℕ → ℕ
@@ -21,84 +22,96 @@ cells rows columns = rows * columns
 abbrev pub ringed : ℕ → ℕ → ℕ
 ringed rows columns = (rows + 2) * (columns + 2)
 
--- Where the numbers of a film of that shape stand.
-abbrev pub rowsOffset : ℕ
-rowsOffset = 3
+-- 6, of n weights of two bytes from an offset on; 7, of n thicknesses of a byte; and 8
+abbrev pub weightsFrom : (ℕ → ℕ) → ℕ → ℕ → Check
+weightsFrom weight n at = failFirst (λ i. eqb (weight i) 0) n 6 (λ i. at + 2 * i)
 
-abbrev pub columnsOffset : ℕ
-columnsOffset = 4
-
-abbrev pub ceilingOffset : ℕ
-ceilingOffset = 8
-
-abbrev pub weightOffset : ℕ → ℕ
-weightOffset i = 15 + 2 * i
-
--- n cells
-abbrev pub thicknessOffset : ℕ → ℕ → ℕ
-thicknessOffset n j = 18 + 2 * n + j
-
--- n cells and t thicknesses
-abbrev pub wedgeOffset : ℕ → ℕ → ℕ
-wedgeOffset n t = 21 + 2 * n + t
-
-abbrev pub endOffset : ℕ → ℕ → ℕ
-endOffset n t = 25 + 2 * n + t
-
--- the values: 6, 7 and 8
-abbrev pub weightsCheck : List ℕ → ℕ → Check
-weightsCheck weights n = failFirst (λ i. eqb (getD weights i 0) 0) n 6 weightOffset
-
-abbrev pub thicknessesCheck : List ℕ → ℕ → ℕ → Check
-thicknessesCheck thicknesses n t = failFirst (λ j. outside (getD thicknesses j 0) 1 thicknessLimit) t 7 (thicknessOffset n)
+abbrev pub thicknessesFrom : (ℕ → ℕ) → ℕ → ℕ → Check
+thicknessesFrom thickness n at = failFirst (λ j. outside (thickness j) 1 thicknessLimit) n 7 (λ j. at + j)
 
 abbrev pub wedgeCheck : ℤ → ℕ → Check
 wedgeCheck wedge place = failIf (ltb wedgeLimit (natAbs wedge)) 8 place
+
+-- The fields, each with the test of the values that stand in its body.
+abbrev pub shapeField : Field
+shapeField =
+    record { tag = 1; size = 2; check = λ bytes at. shapeCheck (byteAt bytes at) at (byteAt bytes (at + 1)) (at + 1) }
+
+abbrev pub ceilingField : Field
+ceilingField = record { tag = 2; size = 4; check = λ bytes at. ceilingCheck (longAt bytes at) at }
+
+-- n cells
+abbrev pub weightsField : ℕ → Field
+weightsField n =
+    record { tag = 3; size = 2 * n; check = λ bytes at. weightsFrom (λ i. wordAt bytes (at + 2 * i)) n at }
+
+-- t thicknesses
+abbrev pub thicknessesField : ℕ → Field
+thicknessesField t =
+    record { tag = 4; size = t; check = λ bytes at. thicknessesFrom (λ j. byteAt bytes (at + j)) t at }
+
+abbrev pub wedgeField : Field
+wedgeField = record { tag = 5; size = 4; check = λ bytes at. wedgeCheck (signedOf (longAt bytes at)) at }
+
+-- The first three, which other kinds of file share; and the film's five.
+abbrev pub opening : ℕ → List Field
+opening n = shapeField ∷ ceilingField ∷ weightsField n ∷ []
+
+abbrev pub gauged : ℕ → ℕ → List Field
+gauged n t = opening n ++ (thicknessesField t ∷ wedgeField ∷ [])
+
+-- Where the numbers of a film of n cells and t thicknesses stand: weight i at 2 × i behind the first, thickness j at j.
+abbrev pub rowsOffset : ℕ
+rowsOffset = body 0
+
+abbrev pub columnsOffset : ℕ
+columnsOffset = rowsOffset + 1
+
+abbrev pub ceilingOffset : ℕ
+ceilingOffset = body (endOf (shapeField ∷ []) 0)
+
+abbrev pub weightsOffset : ℕ
+weightsOffset = body (endOf (shapeField ∷ ceilingField ∷ []) 0)
+
+abbrev pub thicknessesOffset : ℕ → ℕ
+thicknessesOffset n = body (endOf (opening n) 0)
+
+abbrev pub wedgeOffset : ℕ → ℕ → ℕ
+wedgeOffset n t = body (endOf (opening n ++ (thicknessesField t ∷ [])) 0)
+
+abbrev pub endOffset : ℕ → ℕ → ℕ
+endOffset n t = endOf (gauged n t) 0
+
+-- the numbers of cells and of thicknesses, by the shape that stands in a file
+abbrev pub cellsIn : List ℕ → ℕ
+cellsIn bytes = cells (byteAt bytes rowsOffset) (byteAt bytes columnsOffset)
+
+abbrev pub ringIn : List ℕ → ℕ
+ringIn bytes = ringed (byteAt bytes rowsOffset) (byteAt bytes columnsOffset)
+
+-- the numbers that stand in a file
+abbrev pub gaugeIn : List ℕ → Gauge
+gaugeIn bytes =
+    record {
+      rows = byteAt bytes rowsOffset;
+      columns = byteAt bytes columnsOffset;
+      ceiling = longAt bytes ceilingOffset;
+      weights = tabulate (cellsIn bytes) (λ i. wordAt bytes (weightsOffset + 2 * i));
+      thicknesses = tabulate (ringIn bytes) (λ j. byteAt bytes (thicknessesOffset (cellsIn bytes) + j));
+      wedge = signedOf (longAt bytes (wedgeOffset (cellsIn bytes) (ringIn bytes)));
+    }
 
 -- 9, of the coefficients that the film's numbers form
 unfoldable pub gaugeDominance : Gauge → Check
 gaugeDominance g = failFirst (notDominant (formed g)) (g .rows * g .columns) 9 (λ i. i)
 
--- one field: header, tag, length, presence of the body
-unfoldable pub fieldAt : List ℕ → ℕ → ℕ → ℕ → Check
-fieldAt bytes at tag size =
-    failIf (ltb (length bytes) (at + 3)) 1 (length bytes) orElse failIf (not (eqb (byteAt bytes at) tag)) 2 at
-    orElse failIf (not (eqb (wordAt bytes (at + 1)) size)) 3 at
-    orElse failIf (ltb (length bytes) (at + 3 + size)) 1 (length bytes)
+-- field by field, each with its values; then stray
+abbrev pub fieldsCheck : List Field → List ℕ → Check
+fieldsCheck fields bytes = walk fields bytes 0 orElse strayAt bytes (endOf fields 0)
 
--- the numbers that stand in a file
-abbrev pub gaugeIn : List ℕ → Gauge
-gaugeIn bytes =
-    let n = cells (byteAt bytes rowsOffset) (byteAt bytes columnsOffset) in
-    let t = ringed (byteAt bytes rowsOffset) (byteAt bytes columnsOffset) in
-    record {
-      rows = byteAt bytes rowsOffset;
-      columns = byteAt bytes columnsOffset;
-      ceiling = longAt bytes ceilingOffset;
-      weights = tabulate n (λ i. wordAt bytes (weightOffset i));
-      thicknesses = tabulate t (λ j. byteAt bytes (thicknessOffset n j));
-      wedge = signedOf (longAt bytes (wedgeOffset n t));
-    }
-
--- field by field, each with its values; then stray; then 9
-module _ (bytes : List ℕ) (g : Gauge) where
-  abbrev pub fieldsCheck : ℕ → ℕ → Check
-  fieldsCheck n t =
-      fieldAt bytes 0 1 2 orElse shapeCheck (g .rows) rowsOffset (g .columns) columnsOffset orElse fieldAt bytes 5 2 4
-      orElse ceilingCheck (g .ceiling) ceilingOffset
-      orElse fieldAt bytes 12 3 (2 * n)
-      orElse weightsCheck (g .weights) n
-      orElse fieldAt bytes (15 + 2 * n) 4 t
-      orElse thicknessesCheck (g .thicknesses) n t
-      orElse fieldAt bytes (18 + 2 * n + t) 5 4
-      orElse wedgeCheck (g .wedge) (wedgeOffset n t)
-      orElse failIf (ltb (endOffset n t) (length bytes)) 2 (endOffset n t)
-      orElse gaugeDominance g
-
+-- the fields of the film whose shape stands in a file; then 9
 unfoldable pub fileCheck : List ℕ → Check
-fileCheck bytes =
-    fieldsCheck bytes (gaugeIn bytes) (cells (byteAt bytes rowsOffset) (byteAt bytes columnsOffset))
-    (ringed (byteAt bytes rowsOffset) (byteAt bytes columnsOffset))
+fileCheck bytes = fieldsCheck (gauged (cellsIn bytes) (ringIn bytes)) bytes orElse gaugeDominance (gaugeIn bytes)
 
 -- a film file is accepted, or refused with a number and a place
 pub data Reading : Type 0 where
@@ -112,19 +125,24 @@ readBy (fail number place) bytes = refused number place
 abbrev pub readFilm : List ℕ → Reading
 readFilm bytes = readBy (fileCheck bytes) bytes
 
--- the file of a film's numbers
+-- the file of a film's numbers: its fields with these bodies
 abbrev pub weightBytes : List ℕ → List ℕ
 weightBytes [] = []
 weightBytes (w ∷ ws) = word w ++ weightBytes ws
 
-abbrev pub field : ℕ → ℕ → List ℕ → List ℕ
-field tag size body = (tag ∷ word size) ++ body
+abbrev pub bodies : Gauge → List (List ℕ)
+bodies g =
+    (g .rows ∷ g .columns ∷ []) ∷ long (g .ceiling) ∷ weightBytes (g .weights) ∷ g .thicknesses ∷ long (unsignedOf (g .wedge)) ∷ []
 
 unfoldable pub fileOf : Gauge → List ℕ
-fileOf g =
-    field 1 2 (g .rows ∷ g .columns ∷ []) ++ field 2 4 (long (g .ceiling)) ++ field 3 (2 * cells (g .rows) (g .columns)) (weightBytes (g .weights))
-    ++ field 4 (ringed (g .rows) (g .columns)) (g .thicknesses)
-    ++ field 5 4 (long (unsignedOf (g .wedge)))
+fileOf g = bytesOf (gauged (cells (g .rows) (g .columns)) (ringed (g .rows) (g .columns))) (bodies g)
+
+-- 6 and 7 of a film's own numbers, at the offsets that they get in its file
+abbrev pub weightsCheck : List ℕ → ℕ → Check
+weightsCheck weights n = weightsFrom (λ i. getD weights i 0) n weightsOffset
+
+abbrev pub thicknessesCheck : List ℕ → ℕ → ℕ → Check
+thicknessesCheck thicknesses n t = thicknessesFrom (λ j. getD thicknesses j 0) t (thicknessesOffset n)
 
 -- the tests of calls that take a film's numbers: 4, 10, 5, 6, 7, 8, 9. `fits` says whether all slices have their lengths
 unfoldable pub gaugeCheck : Gauge → Bool → Check

@@ -7,7 +7,8 @@ use lib.Dec.{ltb}
 use lib.IntN.{ℤ, pos, _+ℤ_, _-ℤ_}
 use lib.ListN.{length, getD}
 use Rattle.monotone.specs.Links.{pull}
-use Rattle.monotone.specs.Linear.{System}
+use Rattle.monotone.specs.Rule.{Rule}
+use Rattle.monotone.specs.Linear.{System, ruleOf}
 use Rattle.model.specs.Integers.{negative, lift, drop}
 use Rattle.model.specs.declared.Head.{Head}
 
@@ -128,3 +129,7 @@ systemOf f =
       lift = λ i. lift (sourceAt f i);
       drop = λ i. drop (sourceAt f i);
     }
+
+-- the rule that a film's runs relax by
+abbrev pub rule : Film → Rule
+rule f = ruleOf (systemOf f)

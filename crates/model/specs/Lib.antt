@@ -17,6 +17,7 @@ pub mod Estimate
 pub mod Run
 pub mod History
 pub mod Bytes
+pub mod Fields
 pub mod File
 pub mod FileCalls
 pub mod Report

@@ -4,10 +4,9 @@ use mathlib.Core.List.{List}
 use Prim.Native.Nat.{ℕ, zero, suc, _+_, _-_, _/_, _%_}
 use lib.Dec.{eqb}
 use Rattle.monotone.specs.Ordering.{splitOrder}
-use Rattle.monotone.specs.Linear.{ruleOf}
 use Rattle.monotone.specs.Sweep as theory
 use Rattle.model.specs.Refusals.{Check, pass, fail, numberOf}
-use Rattle.model.specs.Film.{Film, sizeOf, systemOf}
+use Rattle.model.specs.Film.{Film, sizeOf, rule}
 use Rattle.model.specs.Checks.{fieldCheck, orderCheck}
 use Rattle.model.specs.Result.{Result}
 use Rattle.model.specs.Proposal.{ProposalAnswer, propose, lineStart}
@@ -83,7 +82,7 @@ ended r accepted = record { answer = endOf (r .answer) (countsOf (r .last) accep
 -- relaxations by the order from the readied field
 unfoldable pub run : Film → ℕ → ℕ → Bool → List ℕ → Result RunAnswer
 run f budget order on p =
-    ended (theory.sweep (ruleOf (systemOf f)) (ordering f order) budget (theory.begin (readied f budget on p .field)))
+    ended (theory.sweep (rule f) (ordering f order) budget (theory.begin (readied f budget on p .field)))
     (readied f budget on p .accepted)
 
 abbrev pub runBy : Check → Film → ℕ → ℕ → Bool → List ℕ → Result RunAnswer

@@ -1,7 +1,7 @@
 // What document 01 says, as definitions: the one place that a reader must believe.
 //
 // This file declares the values that public calls take and answer with. specs/ gives their meaning, a module for each
-// section of the document: Bytes and File (film files), Refusals, Gauge and Coefficients (a film from thicknesses and wedge),
+// section of the document: Bytes, Fields and File (film files), Refusals, Gauge and Coefficients (a film from thicknesses and wedge),
 // Reynolds (the difference form that they stand for), Film (slack, dominance), Checks, Relaxation, Proposal, Margin, Estimate,
 // Run, FileCalls, Report, ReportCall, Demand (demand 3), and FilmF (the document's worked example). Every definition computes.
 //

@@ -1,8 +1,8 @@
 -- A relaxation and a slack by the cell that was loaded; and the calls by what their tests find. Weights count for the tests alone.
 use mathlib.Core.Path.{_≡_, refl, sym, ap, _∙_}
 use mathlib.Core.Bool.{true}
-use mathlib.Core.List.{List, []}
-use Prim.Native.Nat.{ℕ, _*_, _≤_, _<_, max}
+use mathlib.Core.List.{List}
+use Prim.Native.Nat.{ℕ, _≤_, _<_, max}
 use native.Mathlib.Omega.{arith}
 use lib.IntN.{ℤ}
 use lib.Dec.{leb}
@@ -10,20 +10,20 @@ use lib.ListN.{length, getD}
 use Rattle.monotone.specs.Sweep as theory
 use borrow.Author.Tests.{leb-false}
 use Rattle.model.specs.Refusals.{pass, fail, checkOf}
-use Rattle.model.specs.Film.{Film, filmOf, sizeOf, beside, across, neighbours, slack}
+use Rattle.model.specs.Film.{Film, sizeOf, beside, across, neighbours, slack}
 use Rattle.model.specs.Checks.{fieldCheck, cellCheck}
 use Rattle.model.specs.Accepted.{Limited}
 use Rattle.model.proofs.Checks.{failIf-pass, field-passes}
 use Rattle.model.specs.Result.{Gives}
 use Rattle.model.specs.Relaxation.{requiredFor, required, RelaxAnswer, quiet, raised, over, relaxedTo, relaxBy, visitCheck, relaxCall, SlackAnswer, slackCall}
-use Rattle.model.specs.declared.Head.{Head}
+use Rattle.model.proofs.Bare.{bare}
 use Rattle.model.specs.declared.Tested.{Tested}
 use Rattle.cell.specs.declared.Cell.{Cell}
 use Rattle.grid.specs.Pull.{cellBy}
 use Rattle.grid.proofs.Limited.{cell-is}
-use Rattle.sweep.specs.Relaxation.{kindOf, fieldAfter, Visited}
-use Rattle.sweep.specs.declared.Visit.{Visit}
-use Rattle.sweep.proofs.Relaxation.{relax-target, raise-above}
+use Rattle.visit.specs.Relaxation.{kindOf, fieldAfter, Visited}
+use Rattle.visit.specs.declared.Visit.{Visit}
+use Rattle.visit.proofs.Relaxation.{relax-target, raise-above}
 
 -- what a film, a field and a cell are that have passed their tests
 pub record Ready (f : Film) (p : List ℕ) (i : ℕ) : Type 0 where
@@ -70,32 +70,23 @@ module _ {p exit : List ℕ} {i ceiling target : ℕ} {v : Visit} (required : �
       let z : target ≡ required = omega (arith, r) in
       taken theory.raise e (raised target) (ap raised z) (ap (λ (x : ℕ). fieldAfter theory.raise p i x) z)
 
-module _ (h : Head) (diagonals rights ups : List ℕ) (sources : List ℤ) where
-  abbrev pub bare : Film
-  bare = filmOf h [] diagonals rights ups sources
-
-  abbrev pub whole : List ℕ → Film
-  whole w = filmOf h w diagonals rights ups sources
-
+module _ (f : Film) (p : List ℕ) (i : ℕ) where
   -- the required pressure, from the cell that was loaded
-  module _ (w p : List ℕ) (i : ℕ) (l : Limited (whole w)) (b : i < h .rows * h .columns) (c : Cell)
-      (e : c ≡ cellBy (h .columns) diagonals rights ups sources p i) where
-    pub cell-required : requiredFor (c .diagonal) (c .pull) (c .source) ≡ required bare p i
-    unfolding neighbours beside across
-    cell-required = ap (λ (x : Cell). requiredFor (x .diagonal) (x .pull) (x .source)) (e ∙ cell-is l p i b)
+  pub cell-required : Limited f → i < sizeOf f → (c : Cell) → c ≡ cellBy (f .columns) (f .diagonals) (f .rights) (f .ups) (f .sources) p i
+      → requiredFor (c .diagonal) (c .pull) (c .source) ≡ required (bare f) p i
+  unfolding neighbours beside across
+  cell-required l b c e = ap (λ (x : Cell). requiredFor (x .diagonal) (x .pull) (x .source)) (e ∙ cell-is l p i b)
 
-  module _ (w p : List ℕ) (i : ℕ) where
-    pub relax-passed : {a : RelaxAnswer} {exit : List ℕ} → visitCheck (whole w) p i ≡ pass → Gives (relaxBy pass bare p i) a exit
-        → Gives (relaxCall (whole w) p i) a exit
-    unfolding neighbours beside across
-    relax-passed e G = rw e G
+  pub relax-passed : {a : RelaxAnswer} {exit : List ℕ} → visitCheck f p i ≡ pass → Gives (relaxBy pass (bare f) p i) a exit → Gives (relaxCall f p i) a exit
+  unfolding neighbours beside across
+  relax-passed e G = rw e G
 
-    pub relax-refused : {number place : ℕ} → visitCheck (whole w) p i ≡ fail number place → Gives (relaxCall (whole w) p i) (RelaxAnswer.refused number place) p
-    relax-refused e = record { answer-is = rw e; lent-is = rw e }
+  pub relax-refused : {number place : ℕ} → visitCheck f p i ≡ fail number place → Gives (relaxCall f p i) (RelaxAnswer.refused number place) p
+  relax-refused e = record { answer-is = rw e; lent-is = rw e }
 
-    pub slack-passed : {z : ℤ} → visitCheck (whole w) p i ≡ pass → z ≡ slack bare p i → SlackAnswer.is z ≡ slackCall (whole w) p i
-    unfolding neighbours beside across
-    slack-passed e z = rw e (ap SlackAnswer.is z)
+  pub slack-passed : {z : ℤ} → visitCheck f p i ≡ pass → z ≡ slack (bare f) p i → SlackAnswer.is z ≡ slackCall f p i
+  unfolding neighbours beside across
+  slack-passed e z = rw e (ap SlackAnswer.is z)
 
-    pub slack-refused : {number place : ℕ} → visitCheck (whole w) p i ≡ fail number place → SlackAnswer.refused number place ≡ slackCall (whole w) p i
-    slack-refused e = rw e
+  pub slack-refused : {number place : ℕ} → visitCheck f p i ≡ fail number place → SlackAnswer.refused number place ≡ slackCall f p i
+  slack-refused e = rw e

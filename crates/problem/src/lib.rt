@@ -15,7 +15,7 @@ use model::Head;
 use model::Relaxed;
 use model::Slack;
 use model::Tested;
-use sweep::Visit;
+use visit::Visit;
 
 // The relaxation of a cell of a film that has passed its tests.
 fn relax_cell(
@@ -36,7 +36,7 @@ fn relax_cell(
     let target = grid::cell_at(diagonals, rights, ups, sources, columns, &field[..], at).raise(
         pressure,
     );
-    match sweep::visit_at(field, at, target, head.ceiling) {
+    match visit::visit_at(field, at, target, head.ceiling) {
         Visit::Quiet => Relaxed::Quiet,
         Visit::Raised => Relaxed::Raised(target as u32),
         Visit::Over => Relaxed::Over(at),

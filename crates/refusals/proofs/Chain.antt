@@ -5,10 +5,6 @@ use Rattle.model.specs.declared.Refusal.{Refusal}
 use Rattle.model.specs.declared.Tested.{Tested}
 use Rattle.model.specs.declared.Tested.the-variants.{Fine, Refused}
 
-pub orElse-assoc : (x y z : Check) → ((x orElse y) orElse z) ≡ (x orElse y orElse z)
-orElse-assoc pass y z = refl
-orElse-assoc (fail number place) y z = refl
-
 pub orElse-pass : (x : Check) → (x orElse pass) ≡ x
 orElse-pass pass = refl
 orElse-pass (fail number place) = refl

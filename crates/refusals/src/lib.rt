@@ -1,7 +1,12 @@
-// The parts of every call's tests: how a refusal is made, and the tests that read no coefficients.
+// How a refusal is made, which of two comes first, and the tests that read no coefficients: shape, ceiling, lengths, weights, start,
+// ordering, line and cell. Internal: crates `checks`, `gauge` and `fields` put them into document 01's order, for calls that take
+// coefficients, for a film's numbers and for files. A place is the caller's to say: 0, a cell or an offset.
+//
+// Proved: what each test finds, read as the model's check by `checkOf`, equals the check that crate `model` defines. proofs/Search has
+// the search for the lowest place, proofs/Rows the same row by row, and proofs/Chain how a call that matches on a test goes on.
 ghost use mathlib.Core.Path.{_≡_};
 ghost use mathlib.Core.Bool.{not};
-ghost use Prim.Native.Nat.{_*_};
+ghost use Prim.Native.Nat.{_+_, _*_, _≤_};
 ghost use lib.Dec.{ltb, leb, eqb};
 ghost use lib.ListN.{length, getD};
 ghost use Rattle.model.specs.Refusals.{checkOf, numberOf, failIf, failFirst, _orElse_};
@@ -21,13 +26,6 @@ pub fn outside(x: u32, low: u32, high: u32) -> bool
     ensures { λ r. ⌜ r ≡ outsideOf x low high ⌝ }
 {
     (x < low) | (high < x)
-}
-
-// The number of cells.
-pub fn area(rows: u32, columns: u32) -> usize
-    ensures { λ r. ⌜ r ≡ rows * columns ⌝ }
-{
-    cell::product(rows, columns) as usize
 }
 
 // A refusal, if something is bad.
@@ -60,48 +58,68 @@ pub fn order_test(order: u32) -> Tested
     fail_if(2 < order, Fault::BadOrder, 0)
 }
 
-// A refusal at place 0, if a number is not from low to high.
-pub fn range_test(x: u32, low: u32, high: u32, fault: Fault) -> Tested
-    ensures { λ r. ⌜ checkOf r ≡ failIf (outsideOf x low high) (numberOf fault) 0 ⌝ }
+// A refusal, if a number is not from low to high.
+pub fn range_test(x: u32, low: u32, high: u32, fault: Fault, place: usize) -> Tested
+    ensures { λ r. ⌜ checkOf r ≡ failIf (outsideOf x low high) (numberOf fault) place ⌝ }
 {
-    fail_if(outside(x, low, high), fault, 0)
+    fail_if(outside(x, low, high), fault, place)
+}
+
+// Refusal 4, at the place of each number.
+pub fn shape_test(rows: u32, rows_at: usize, columns: u32, columns_at: usize) -> Tested
+    ensures { λ r. ⌜ checkOf r ≡ shapeCheck rows «rows_at» columns «columns_at» ⌝ }
+{
+    or_else(
+        range_test(rows, 1, SIDE_LIMIT, Fault::BadShape, rows_at),
+        range_test(columns, 1, SIDE_LIMIT, Fault::BadShape, columns_at),
+    )
+}
+
+// Refusal 5.
+pub fn ceiling_test(ceiling: u32, at: usize) -> Tested
+    ensures { λ r. ⌜ checkOf r ≡ ceilingCheck ceiling at ⌝ }
+{
+    range_test(ceiling, 1, CEILING_LIMIT, Fault::BadCeiling, at)
 }
 
 // Refusal 13, of a line.
 pub fn line_test(head: Head, line: u32) -> Tested
     ensures { λ r. ⌜ checkOf r ≡ failIf (outsideOf line 1 (head .rows)) 13 0 ⌝ }
 {
-    range_test(line, 1, head.rows, Fault::OutOfGrid)
+    range_test(line, 1, head.rows, Fault::OutOfGrid, 0)
 }
 
 // Refusal 13, of a cell.
 pub fn cell_test(head: Head, at: usize) -> Tested
     ensures { λ r. ⌜ checkOf r ≡ failIf (leb (head .rows * head .columns) at) 13 0 ⌝ }
 {
-    fail_if(area(head.rows, head.columns) <= at, Fault::OutOfGrid, 0)
+    let n = shape::area(head.rows, head.columns);
+    fail_if(n <= at, Fault::OutOfGrid, 0)
 }
 
 // Refusals 4, 5 and 10: the shape, the ceiling, and whether the lent slices have their lengths.
 pub fn size_test(head: Head, fits: bool) -> Tested
     ensures { λ r. ⌜ checkOf r ≡ (shapeCheck (head .rows) 0 (head .columns) 0 orElse ceilingCheck (head .ceiling) 0 orElse failIf (not fits) 10 0) ⌝ }
 {
-    let rows = range_test(head.rows, 1, SIDE_LIMIT, Fault::BadShape);
-    let columns = range_test(head.columns, 1, SIDE_LIMIT, Fault::BadShape);
-    let ceiling = range_test(head.ceiling, 1, CEILING_LIMIT, Fault::BadCeiling);
-    let lengths = fail_if(!fits, Fault::WrongBuffer, 0);
-    or_else(or_else(rows, columns), or_else(ceiling, lengths))
+    let shape = shape_test(head.rows, 0, head.columns, 0);
+    let ceiling = ceiling_test(head.ceiling, 0);
+    or_else(
+        shape,
+        or_else(ceiling, fail_if(!fits, Fault::WrongBuffer, 0)),
+    )
 }
 
-// Refusal 6, at the lowest cell.
-pub fn weight_test(weights: &[u16]) -> Tested
-    ensures { λ r. ⌜ checkOf r ≡ failFirst (λ i. eqb (getD (now (weights .entry)) i 0) 0) (length (now (weights .entry))) 6 (λ i. i) ⌝ }
+// Refusal 6, at the lowest cell's place: the places begin at `from`, `step` apart.
+pub fn weight_test(weights: &[u16], from: usize, step: usize) -> Tested
+    requires { ⌜ from + step * length (now weights) ≤ 1000000 ⌝ }
+    ensures { λ r. ⌜ checkOf r ≡ failFirst (λ i. eqb (getD (now (weights .entry)) i 0) 0) (length (now (weights .entry))) 6 (λ i. from + step * i) ⌝ }
 {
     let mut i = 0;
     while i < weights.len() {
         if weights[i] == 0 {
             return Tested::Refused(Refusal {
                 fault: Fault::ZeroWeight,
-                place: i,
+                place: from + step * i,
             });
         }
         i += 1;

@@ -9,7 +9,7 @@ use lib.ListN.{length, getD}
 use Rattle.model.specs.Film.{Film, sizeOf, rowOf, columnOf}
 use Rattle.model.specs.Report.{higher, peakOf, peakLine}
 use Rattle.model.proofs.Peak.{peak-below}
-use Rattle.text.specs.Writes.{peakText}
+use Rattle.report_lines.specs.Lines.{peakText}
 
 pub record Peaked (p : List ℕ) (i best : ℕ) : Type 0 where
   pub within : i ≤ length p

@@ -1,4 +1,5 @@
-// The report's text, from a film, a run's answer and the field that it left. Internal: crate `report` calls it.
+// The report's text, from a film, a run's answer and the field that it left: which line says what. Crate `report_lines` has how a line
+// is written. Internal: crates `film_text` and `report` call it.
 //
 // Proved: what is written into the lent slice is exactly the text that crate `model` defines (model/specs/Report).
 ghost use mathlib.Core.Path.{_≡_};
@@ -10,10 +11,10 @@ ghost use Rattle.model.specs.Film.{filmOf};
 ghost use Rattle.model.specs.Accepted.{Limited};
 ghost use Rattle.model.specs.Run.{runAnswerOf};
 ghost use Rattle.model.specs.Report.{line, overWord, cellLine, cellLines, peakOf, fieldText, answerLine, refusedLine, answerText};
-ghost use Rattle.text.specs.Writes.{Fits, Writes, pair};
+ghost use Rattle.text.specs.Writes.{Fits, Writes};
+ghost use Rattle.report_lines.specs.Lines.{pair};
 ghost use Rattle.render.specs.Answer.{Inside};
 use model::Counts;
-use model::Fault;
 use model::Head;
 use model::Ran;
 use model::Refusal;
@@ -55,35 +56,19 @@ fn peak(field: &[u32]) -> usize
     best
 }
 
-// A refusal's number in document 01's table.
-pub fn number_of(fault: Fault) -> u64
-    ensures { λ r. ⌜ r ≡ numberOf fault ⌝ }
-{
-    match fault {
-        Fault::Truncated => 1,
-        Fault::Unexpected => 2,
-        Fault::WrongLength => 3,
-        Fault::BadShape => 4,
-        Fault::BadCeiling => 5,
-        Fault::ZeroWeight => 6,
-        Fault::BadThickness => 7,
-        Fault::BadWedge => 8,
-        Fault::NotDominant => 9,
-        Fault::WrongBuffer => 10,
-        Fault::BadOrder => 11,
-        Fault::StartAboveCeiling => 12,
-        Fault::OutOfGrid => 13,
-        Fault::BadCoefficient => 14,
-    }
-}
-
 // The line of a refusal.
 pub fn put_refused(refusal: Refusal, out: &mut [u8], at: usize) -> usize
     requires { ⌜ Fits (refusedLine (numberOf (refusal .fault)) (refusal .place)) (now out) at ⌝ }
     ensures { λ r. ⌜ Writes (refusedLine (numberOf (refusal .fault)) (refusal .place)) (now (out .entry)) at (now (out .exit)) r ⌝ }
 {
     let fault = refusal.fault;
-    text::lines::put_counted(out, at, b"REFUSED", number_of(fault), refusal.place as u64)
+    report_lines::put_counted(
+        out,
+        at,
+        b"REFUSED",
+        told::number_of(fault) as u64,
+        refusal.place as u64,
+    )
 }
 
 // The line of one cell.
@@ -104,7 +89,7 @@ fn put_cell(
     ensures { λ r. ⌜ Writes (cellLine (filmOf head [] (now (diagonals .entry)) (now (rights .entry)) (now (ups .entry)) (now (sources .entry))) (now (field .entry)) cell) (now (out .entry)) at (now (out .exit)) r ⌝ }
 {
     let slack = grid::slack_of(head, diagonals, rights, ups, sources, field, cell);
-    text::lines::put_cell(
+    report_lines::put_cell(
         out,
         at,
         row(cell, head.columns),
@@ -157,7 +142,7 @@ fn put_field(
 {
     let next = put_cells(head, diagonals, rights, ups, sources, field, out, at);
     let top = peak(field);
-    text::lines::put_peak(
+    report_lines::put_peak(
         out,
         next,
         row(top, head.columns),
@@ -171,7 +156,7 @@ fn put_counts(word: &[u8], counts: Counts, out: &mut [u8], at: usize) -> usize
     requires { ⌜ Fits (answerLine (now word) counts) (now out) at ⌝ }
     ensures { λ r. ⌜ Writes (answerLine (now (word .entry)) counts) (now (out .entry)) at (now (out .exit)) r ⌝ }
 {
-    text::lines::put_counted(out, at, word, counts.visits as u64, counts.raises as u64)
+    report_lines::put_counted(out, at, word, counts.visits as u64, counts.raises as u64)
 }
 
 // Done or Stopped: the answer's line, the cells and the peak.
@@ -203,7 +188,7 @@ fn put_over(columns: u32, cell: usize, counts: Counts, out: &mut [u8], at: usize
     ensures { λ r. ⌜ Writes (answerLine overWord counts ++ line (pair (cell / columns + 1) (cell % columns + 1))) (now (out .entry)) at (now (out .exit)) r ⌝ }
 {
     let next = put_counts(b"OVER", counts, out, at);
-    text::lines::put_place(out, next, row(cell, columns), column(cell, columns))
+    report_lines::put_place(out, next, row(cell, columns), column(cell, columns))
 }
 
 // A run's answer, and what follows it.

@@ -1,91 +1,29 @@
--- The report of an accepted film, from what the run answered; the film that its formed coefficients are; and the report of a file, from what
--- the reader answered.
-use mathlib.Core.Path.{_≡_, refl, sym, ap, _∙_, subst}
-use mathlib.Core.Bool.{true, false}
-use mathlib.Core.List.{List, [], _∷_, _++_}
+-- The film that a report's formed coefficients are, and the report of a file, from what the reader answered.
+use mathlib.Core.Path.{_≡_, refl, ap, _∙_}
+use mathlib.Core.Bool.{true}
+use mathlib.Core.List.{List, [], _∷_}
 use Prim.Native.Nat.{ℕ, zero, suc, _*_, _≤_, _<_}
 use native.Mathlib.Nat.{le-of-suc-le-suc}
 use native.Mathlib.Omega.{arith}
 use borrow.Author.Tests.{lt-ltb, le-ltb}
 use lib.IntN.{ℤ}
 use lib.ListN.{length, take, replicate}
-use Rattle.monotone.specs.Linear.{ruleOf}
-use Rattle.monotone.proofs.History.{zeros-bounded}
 use Rattle.model.specs.Refusals.{pass}
-use Rattle.model.specs.Film.{Film, filmOf, sizeOf, systemOf, beside, across, neighbours}
+use Rattle.model.specs.Film.{filmOf}
 use Rattle.model.specs.Coefficients.{formed}
-use Rattle.model.specs.Checks.{orderCheck}
-use Rattle.model.specs.Accepted.{Accepted}
 use Rattle.model.specs.Result.{Gives}
-use Rattle.model.specs.Run.{RunAnswer, done, stopped, over, refused, runBy, runCall}
 use Rattle.model.specs.Gauge.{Gauge}
 use Rattle.model.specs.File.{gaugeCheck, Bytes, Values}
 use Rattle.model.specs.FileCalls.{gaugeOf, LoadAnswer, film, Loads}
-use Rattle.model.specs.Report.{cellLine, cellLines, refusedLine, answerText, reportBudget, reportRun, filmReport, reportBy, reportOf}
+use Rattle.model.specs.Report.{refusedLine, filmReport, reportBy, reportOf}
 use Rattle.model.specs.ReportCall.{longestReport, ReportAnswer, reportCall}
 use Rattle.model.specs.declared.Head.{Head}
-use Rattle.model.specs.declared.Counts.{Counts}
-use Rattle.model.proofs.Run.{run-good, run-over}
 use Rattle.model.proofs.File.{read-values}
-use Rattle.model.proofs.Forming.{field-accepted}
 use Rattle.model.proofs.Report.{report-fits}
 use Rattle.file.proofs.Inverse.{used, read-film, read-refusal}
 use Rattle.forming.specs.Cell.{Forming}
 use Rattle.text.specs.Writes.{Fits, Writes}
 use Rattle.text.proofs.Writes.{sets-front}
-use Rattle.render.specs.Answer.{Inside}
-
--- weights count for nothing in the text after a report's head
-module _ (h : Head) (w diagonals rights ups : List ℕ) (sources : List ℤ) (p : List ℕ) where
-  abbrev bare : Film
-  bare = filmOf h [] diagonals rights ups sources
-
-  abbrev whole : Film
-  whole = filmOf h w diagonals rights ups sources
-
-  lines-bare : (n : ℕ) → cellLines bare p n ≡ cellLines whole p n
-  unfolding cellLines neighbours beside across
-  lines-bare zero = refl
-  lines-bare (suc n) = ap (λ (l : List ℕ). l ++ cellLine whole p n) (lines-bare n)
-
-  pub answer-bare : (a : RunAnswer) → answerText bare a p ≡ answerText whole a p
-  answer-bare (done c) = rw (lines-bare (h .rows * h .columns))
-  answer-bare (stopped c) = rw (lines-bare (h .rows * h .columns))
-  answer-bare (over i c) = refl
-  answer-bare (refused number place) = refl
-
--- What the report's run answers, and the field that it leaves: they give the report's text, and Over names a cell of the grid.
-pub record Reports (f : Film) (a : RunAnswer) (p : List ℕ) : Type 0 where
-  pub len : length p ≡ sizeOf f
-  pub inside : Inside (sizeOf f) a
-  pub text : answerText f (reportRun f .answer) (reportRun f .lent) ≡ answerText f a p
-
-named : (n : ℕ) (a : RunAnswer) → ((i : ℕ) (c : Counts) → a ≡ over i c → i < n) → Inside n a
-named n (done c) h = tt
-named n (stopped c) h = tt
-named n (over i c) h = h i c refl
-named n (refused number place) h = tt
-
-module _ (f : Film) (A : Accepted f) where
-  abbrev zeros : List ℕ
-  zeros = replicate (sizeOf f) 0
-
-  -- no test refuses it
-  run-passes : runCall f reportBudget 0 false zeros ≡ reportRun f
-  run-passes =
-      ap (λ x. runBy x f reportBudget 0 false zeros) (field-accepted f zeros (orderCheck 0) pass A (zeros-bounded (ruleOf (systemOf f))))
-
-  pub run-reports : {field p : List ℕ} {a : RunAnswer} → field ≡ zeros → Gives (runCall f reportBudget 0 false field) a p → Reports f a p
-  run-reports {field} {p} {a} e G =
-      let call : runCall f reportBudget 0 false field ≡ reportRun f = ap (λ (q : List ℕ). runCall f reportBudget 0 false q) e ∙ run-passes in
-      let answer : a ≡ reportRun f .answer = G .answer-is ∙ ap (λ r. r .answer) call in
-      let lent : p ≡ reportRun f .lent = G .lent-is ∙ ap (λ r. r .lent) call in
-      let B = zeros-bounded (ruleOf (systemOf f)) in
-      record {
-        len = ap length lent ∙ run-good f A reportBudget 0 false zeros B .rises .bounded .len;
-        inside = subst (Inside (sizeOf f)) (sym answer) (named (sizeOf f) (reportRun f .answer) (run-over f A reportBudget 0 false zeros B));
-        text = sym (λ k. answerText f (answer k) (lent k));
-      }
 
 -- coefficients at the start of four slices, with the film's weights, are the formed film
 pub film-formed : (h : Head) (w t : List ℕ) (wedge : ℤ) {diagonals rights ups : List ℕ} {sources : List ℤ} → length w ≡ h .rows * h .columns

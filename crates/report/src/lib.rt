@@ -5,12 +5,8 @@
 // bytes, byte for byte, and nothing beyond it has changed.
 ghost use mathlib.Core.Path.{_≡_};
 ghost use mathlib.Core.Bool.{true};
-ghost use Prim.Native.Nat.{_*_};
-ghost use lib.ListN.{replicate};
 ghost use Rattle.model.specs.Refusals.{pass};
-ghost use Rattle.model.specs.Film.{filmOf};
 ghost use Rattle.model.specs.Coefficients.{formed};
-ghost use Rattle.model.specs.Accepted.{Accepted};
 ghost use Rattle.model.specs.Result.{Gives};
 ghost use Rattle.model.specs.File.{gaugeCheck, Values};
 ghost use Rattle.model.specs.FileCalls.{gaugeOf};
@@ -25,56 +21,6 @@ use model::Reported;
 
 // The length of the longest report, as in model/specs/ReportCall.
 const LONGEST: usize = 33288;
-
-// The budget of the report's run.
-const BUDGET: u32 = 4000000;
-
-// The report of an accepted film: its head, one run on a field of zeros, and the run's answer.
-fn put_run(
-    head: Head,
-    weights: &[u16],
-    diagonals: &[u32],
-    rights: &[u32],
-    ups: &[u32],
-    sources: &[i64],
-    field: &mut [u32],
-    out: &mut [u8],
-) -> usize
-    requires { ⌜ Accepted (filmOf head (now weights) (now diagonals) (now rights) (now ups) (now sources)) × (now field ≡ replicate (head .rows * head .columns) 0) ⌝ }
-    requires { ⌜ Fits (filmReport (filmOf head (now weights) (now diagonals) (now rights) (now ups) (now sources))) (now out) 0 ⌝ }
-    ensures { λ r. ⌜ Writes (filmReport (filmOf head (now (weights .entry)) (now (diagonals .entry)) (now (rights .entry)) (now (ups .entry)) (now (sources .entry)))) (now (out .entry)) 0 (now (out .exit)) r ⌝ }
-{
-    let next = text::lines::put_head(
-        out,
-        0,
-        head.rows as u64,
-        head.columns as u64,
-        head.ceiling as u64,
-    );
-    let answer = run::run(
-        head,
-        weights,
-        diagonals,
-        rights,
-        ups,
-        sources,
-        field,
-        BUDGET,
-        0,
-        false,
-    );
-    render::put_answer(
-        head,
-        diagonals,
-        rights,
-        ups,
-        sources,
-        &field[..],
-        answer,
-        out,
-        next,
-    )
-}
 
 // The report of a film's numbers that have passed their tests.
 fn put_film(head: Head, weights: &[u16], thicknesses: &[u8], wedge: i32, out: &mut [u8]) -> usize
@@ -97,7 +43,7 @@ fn put_film(head: Head, weights: &[u16], thicknesses: &[u8], wedge: i32, out: &m
         &mut ups,
         &mut sources,
     );
-    put_run(
+    film_text::put_run(
         head,
         weights,
         &diagonals[..n],
@@ -118,8 +64,8 @@ fn put_report(file: &[u8], out: &mut [u8]) -> usize
     let mut thicknesses = [0u8; 1156];
     match file::read(file, &mut weights, &mut thicknesses) {
         Loaded::Film(head, wedge) => {
-            let n = refusals::area(head.rows, head.columns);
-            let t = refusals::area(head.rows + 2, head.columns + 2);
+            let n = shape::area(head.rows, head.columns);
+            let t = shape::ring(head.rows, head.columns);
             put_film(head, &weights[..n], &thicknesses[..t], wedge, out)
         }
         Loaded::Refused(r) => render::put_refused(r, out, 0),

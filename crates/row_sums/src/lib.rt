@@ -1,5 +1,6 @@
-// Refusal 9 of a film's numbers: the weighted row sums straight from thicknesses and weights, row by row. No table of coefficients
-// is made for it, since clearing one costs more than a small film's whole test.
+// Refusal 9, of films given by thicknesses: the weighted row sums straight from thicknesses and weights, row by row. No table of
+// coefficients is made for it, since clearing one costs more than a small film's whole test. Internal: crates `gauge` and `file`
+// call it where all other tests have passed. Crate `dominance` has that test for coefficients.
 ghost use mathlib.Core.Path.{_≡_};
 ghost use Prim.Native.Nat.{_+_, _-_, _*_, _≤_};
 ghost use lib.IntN.{ℤ, pos};
@@ -23,7 +24,7 @@ fn not_dominant(head: Head, weights: &[u16], thicknesses: &[u8], row: usize, col
     ensures { λ r. ⌜ r ≡ notDominant (formed (gaugeOf head (now (weights .entry)) (now (thicknesses .entry)) (pos 0))) ((row - 1) * head .columns + (column - 1)) ⌝ }
 {
     let links = forming::links_of(forming::around_at(head, thicknesses, row, column));
-    let pull = grid::weights::pull(
+    let pull = shape::weights::pull(
         head,
         weights,
         row,
@@ -33,7 +34,7 @@ fn not_dominant(head: Head, weights: &[u16], thicknesses: &[u8], row: usize, col
         links.down,
         links.up,
     );
-    let weight = grid::weights::weight_at(head, weights, row, column);
+    let weight = shape::weights::weight_at(head, weights, row, column);
     cell::product(links.sum, weight) <= pull
 }
 
@@ -49,7 +50,7 @@ fn row_test(head: Head, weights: &[u16], thicknesses: &[u8], row: usize) -> Test
         if not_dominant(head, weights, thicknesses, row, i + 1) {
             return Tested::Refused(Refusal {
                 fault: Fault::NotDominant,
-                place: grid::index_of(head, row, i + 1),
+                place: shape::index_of(head, row, i + 1),
             });
         }
         i += 1;

@@ -1,3 +1,2 @@
--- Laws that the proofs of the functions share.
-pub mod Film
-pub mod Proposals
+-- Laws that the proof of the call rests on.
+pub mod Calls

@@ -4,23 +4,22 @@ use mathlib.Core.List.{List}
 use Prim.Native.Nat.{ℕ, _<_}
 use lib.ListN.{length}
 use Rattle.monotone.specs.Ordering.{Permutes}
-use Rattle.monotone.specs.Linear.{ruleOf}
 use Rattle.monotone.specs.Sweep.{begin, sweep}
 use Rattle.monotone.proofs.Agree.{sweep-agrees}
 use Rattle.model.specs.Lists.{tabulate}
-use Rattle.model.specs.Film.{Film, sizeOf, systemOf}
+use Rattle.model.specs.Film.{Film, sizeOf, rule}
 use Rattle.model.specs.Accepted.{Limited}
 use Rattle.model.specs.Run.{ordering}
 use Rattle.model.proofs.Lists.{tabulate-length, tabulate-at}
 use Rattle.model.proofs.Run.{order-permutes}
 use Rattle.grid.proofs.Neighbours.{pull-is}
 use Rattle.grid.proofs.Limited.{limited-edges}
-use Rattle.sweep.specs.Rule.{ruleBy, requiredBy}
+use Rattle.relaxation.specs.Rule.{ruleBy, requiredBy}
 use Rattle.sweep.specs.Sweep.{Listed, orderIn}
 
 module _ {f : Film} (l : Limited f) where
   required-is : (p : List ℕ) (i : ℕ) → i < sizeOf f
-      → requiredBy (f .columns) (f .diagonals) (f .rights) (f .ups) (f .sources) p i ≡ (ruleOf (systemOf f)) .required p i
+      → requiredBy (f .columns) (f .diagonals) (f .rights) (f .ups) (f .sources) p i ≡ (rule f) .required p i
   unfolding requiredBy
   required-is p i h = rw (pull-is f p (limited-edges l) i h)
 
@@ -42,8 +41,8 @@ module _ {f : Film} (l : Limited f) where
 
     pub film-sweep : (budget : ℕ) (p : List ℕ) → 0 < sizeOf f
         → sweep (ruleBy (length table) (f .ceiling) (f .columns) (f .diagonals) (f .rights) (f .ups) (f .sources)) (orderIn table) budget (begin p)
-        ≡ sweep (ruleOf (systemOf f)) (ordering f order) budget (begin p)
+        ≡ sweep (rule f) (ordering f order) budget (begin p)
     film-sweep budget p h =
         rw table-length
-        (sweep-agrees (sizeOf f) (f .ceiling) (requiredBy (f .columns) (f .diagonals) (f .rights) (f .ups) (f .sources)) (ruleOf (systemOf f) .required)
+        (sweep-agrees (sizeOf f) (f .ceiling) (requiredBy (f .columns) (f .diagonals) (f .rights) (f .ups) (f .sources)) (rule f .required)
         (orderIn table) (ordering f order) table-at table-cell required-is budget (begin p) h)

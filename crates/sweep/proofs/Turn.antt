@@ -13,12 +13,13 @@ use Rattle.monotone.specs.Sweep as theory
 use Rattle.monotone.proofs.Sweep.{Seen, was-quiet, was-raise, was-exceed, see}
 use Rattle.monotone.proofs.Steps.{Going, going-begin, going-stopped, going-quiet, going-done, going-raise, going-over}
 use Rattle.grid.specs.Pull.{Loaded}
-use Rattle.sweep.specs.Relaxation.{Room, kindOf, fieldAfter, countAfter, Stepped}
-use Rattle.sweep.specs.Sweep.{Listed, orderIn, stateOf, judgeBy, foundAt, Advanced, answerOf, counterOf, Ends}
-use Rattle.sweep.specs.declared.Counter.{Counter}
-use Rattle.sweep.specs.declared.After.{After}
-use Rattle.sweep.specs.declared.Step.{Step}
-use Rattle.sweep.specs.declared.Step.the-variants as steps
+use Rattle.visit.specs.Relaxation.{Room, kindOf, fieldAfter, countAfter, Stepped}
+use Rattle.sweep.specs.Sweep.{Listed, orderIn, stateOf, foundAt, Advanced, answerOf, counterOf, Ends}
+use Rattle.visit.specs.Relaxation.{judgeBy}
+use Rattle.visit.specs.declared.Counter.{Counter}
+use Rattle.visit.specs.declared.After.{After}
+use Rattle.visit.specs.declared.Step.{Step}
+use Rattle.visit.specs.declared.Step.the-variants as steps
 use Rattle.sweep.specs.declared.Swept.{Swept}
 use Rattle.sweep.specs.declared.Swept.the-variants as ends
 

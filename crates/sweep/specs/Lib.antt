@@ -1,4 +1,2 @@
 -- What the contracts cite beside the model and the theory.
-pub mod Rule
-pub mod Relaxation
 pub mod Sweep

@@ -1,16 +1,13 @@
--- A sweep by a table of cells: what each relaxation leaves to do, and how it ends.
+-- A sweep by a table of cells: the relaxation at each place, and how it ends.
 use mathlib.Core.Path.{_≡_}
-use mathlib.Core.Bool.{cond}
 use mathlib.Core.List.{List}
 use Prim.Native.Nat.{ℕ, _<_}
-use lib.Dec.{eqb}
 use lib.ListN.{length, getD}
 use Rattle.monotone.specs.Rule.{Rule}
 use Rattle.monotone.specs.Sweep as theory
-use Rattle.sweep.specs.Relaxation.{countAfter, fieldAfter}
-use Rattle.sweep.specs.declared.Counter.{Counter}
-use Rattle.sweep.specs.declared.Step.{Step}
-use Rattle.sweep.specs.declared.Step.the-variants as steps
+use Rattle.visit.specs.Relaxation.{countAfter, fieldAfter, judgeBy}
+use Rattle.visit.specs.declared.Counter.{Counter}
+use Rattle.visit.specs.declared.Step.{Step}
 use Rattle.sweep.specs.declared.Swept.{Swept}
 use Rattle.sweep.specs.declared.Swept.the-variants as ends
 
@@ -26,12 +23,6 @@ orderIn table k = getD table k 0
 -- the theory's state
 abbrev pub stateOf : List ℕ → Counter → ℕ → theory.State
 stateOf p c place = record { field = p; visits = c .visits; raises = c .raises; quiets = c .quiet; place = place }
-
--- what a relaxation of cell i leaves to do, of n cells and with the counts after it
-abbrev pub judgeBy : theory.Relaxation → ℕ → ℕ → Counter → Step
-judgeBy theory.quiet n i c = cond (eqb (c .quiet) n) (steps.Done c) (steps.On c)
-judgeBy theory.raise n i c = steps.On c
-judgeBy theory.exceed n i c = steps.Over i c
 
 -- the relaxation at a place of the table
 abbrev pub foundAt : Rule → List ℕ → List ℕ → ℕ → Counter → theory.Relaxation

@@ -1,6 +1,11 @@
-// A public call's answer as the numbers that a caller in C is told. Internal: crate `film_c` calls it.
+// What a caller in C is told of the calls on a film as coefficients. C has no enums that hold values, so `film_c` hands the answer of a public
+// call (an enum of crate `model`) to the function here that bears the call's name: the number that C gets is returned, and results go
+// into the numbers and arrays that the caller lent. The film's slices are not seen here, nor is the field: the call itself writes those.
+// Crate `tell_files` does the same for the calls on film files, and `told` tells a refusal for both.
 //
-// Proved: the returned number is 0 or the refusal's, and each lent number and array holds what specs/ says of the answer. A refusal
+// Internal: crate `film_c` calls it, and include/film.h says for C what the numbers mean.
+//
+// Proved: the number returned is 0 or the refusal's, and each lent number and array holds what specs/ says of the answer. A refusal
 // writes its place and nothing else; an answer leaves the place as it was.
 ghost use Rattle.model.specs.Relaxation.{relaxAnswerOf, slackAnswerOf};
 ghost use Rattle.model.specs.Margin.{marginAnswerOf};

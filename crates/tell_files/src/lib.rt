@@ -1,4 +1,11 @@
-// The answers of the calls on files as the numbers that a caller in C is told. Internal: crate `film_c` calls it.
+// What a caller in C is told of the calls on film files and on a film's own numbers: as crate `tell`, with a function for each call. Bytes,
+// weights, thicknesses and coefficients are in the caller's slices already; what is told here are the numbers beside them: a report's
+// length, and the head and wedge of a film that was read.
+//
+// Internal: crate `film_c` calls it, and include/film.h says for C what the numbers mean.
+//
+// Proved: the number returned is 0 or the refusal's, and each lent number and array holds what specs/ says of the answer. A refusal
+// writes its place and nothing else; an answer leaves the place as it was.
 ghost use Rattle.model.specs.FileCalls.{loadAnswerOf, saveAnswerOf, formAnswerOf};
 ghost use Rattle.model.specs.ReportCall.{reportAnswerOf};
 ghost use Rattle.told.specs.Refused.{Told};

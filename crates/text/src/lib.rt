@@ -1,12 +1,10 @@
-// Text written into a lent slice from an offset on: bytes, numbers in decimal, and the report's lines (lines.rt). Internal: the calls
-// that write files and reports call it. Each writer answers the place after what it wrote.
+// Text written into a lent slice from an offset on: bytes, and numbers in decimal. Internal: the calls that write files and reports
+// call it. Each writer answers the place after what it wrote.
 //
 // Proved: the slice then holds exactly the text that crate `model` defines (Writes), and no other place of it has changed.
 ghost use mathlib.Core.List.{[], _∷_};
 ghost use Rattle.model.specs.Report.{decimal, signed};
 ghost use Rattle.text.specs.Writes.{Fits, Writes};
-
-pub mod lines; // lines.rt: the report's lines
 
 // In ASCII.
 const MINUS: u8 = 45;

@@ -7,14 +7,11 @@ use lib.ListN.{length, take}
 use lib.Seq.{length-take-le}
 use Rattle.model.specs.Bytes.{word}
 use Rattle.model.specs.File.{weightBytes}
+use Rattle.model.proofs.File.{weights-length}
 
 pub weights-append : (xs ys : List ℕ) → weightBytes (xs ++ ys) ≡ weightBytes xs ++ weightBytes ys
 weights-append [] ys = refl
 weights-append (x ∷ xs) ys = ap (λ l. word x ++ l) (weights-append xs ys)
-
-pub weights-length : (ws : List ℕ) → length (weightBytes ws) ≡ 2 * length ws
-weights-length [] = refl
-weights-length (w ∷ ws) = omega (arith, weights-length ws)
 
 pub weights-front : (at i : ℕ) (ws : List ℕ) → i ≤ length ws → at + 2 * i ≡ at + length (weightBytes (take i ws))
 weights-front at i ws h = omega (arith, weights-length (take i ws), length-take-le i ws h)

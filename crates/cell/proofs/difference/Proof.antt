@@ -1,4 +1,4 @@
--- `cell::difference` meets its contract.
+-- `cell::difference` meets its contract: numbers up to 2 ^ 62 differ by one that fits, which is 0 − (b − a) where a is below b.
 use native.Mathlib.Omega.{arith}
 use Prim.Native.Nat.{suc, _-_}
 use mathlib.Core.Path.{_≡_, _∙_, sym, ap}

@@ -1,4 +1,4 @@
--- `cell::product` meets its contract.
+-- `cell::product` meets its contract: the product of two numbers of 32 bits fits 64.
 use Prim.Native.Nat.{_*_, _-_, _≤_, _^_}
 use native.Mathlib.Nat.{mul-le-mul}
 use native.Mathlib.Omega.{arith}

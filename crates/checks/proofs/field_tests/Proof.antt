@@ -1,4 +1,4 @@
--- `checks::field_tests` meets its contract.
+-- `checks::field_tests` meets its contract: the tests are the model's, in its order; a field that comes to refusal 12 has N cells, by refusal 10 (`field-own`).
 use borrow.Author.Needs.{needs}
 use denote.Ref.{now}
 use Rattle.model.specs.Refusals.{checkOf}

@@ -1,4 +1,4 @@
--- `checks::film_tests` meets its contract.
+-- `checks::film_tests` meets its contract: the test of shape, ceiling and lengths is the model's, and a film that passes it is `Sized`, as `value_tests` asks.
 use mathlib.Core.Path.{_≡_}
 use borrow.Author.Needs.{needs}
 use denote.Ref.{now}

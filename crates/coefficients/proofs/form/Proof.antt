@@ -1,4 +1,4 @@
--- `coefficients::form` meets its contract.
+-- `coefficients::form` meets its contract: its tests are the model's; what passes them is formed and fills the four slices, and a refusal leaves them as they were.
 use mathlib.Core.Path.{_≡_, sym, ap, _∙_}
 use denote.Ref.{now}
 use mir.Facts.{toZ-ofZ}

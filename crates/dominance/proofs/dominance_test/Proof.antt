@@ -1,4 +1,4 @@
--- `dominance::dominance_test` meets its contract.
+-- `dominance::dominance_test` meets its contract: a search row by row (`RowsPassed`), where a row that fails fails for all rows, and past the last all pass.
 use mathlib.Core.Bool.{Bool}
 use Prim.Native.Nat.{ℕ, _-_}
 use borrow.Author.Needs.{needs}

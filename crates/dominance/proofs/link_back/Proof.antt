@@ -1,4 +1,4 @@
--- `dominance::link_back` meets its contract.
+-- `dominance::link_back` meets its contract: its test is that of the contract, and where it fails the place `step` before `at` is within the slice.
 use borrow.Author.Needs.{needs}
 use borrow.Author.Tests.{lt-ltb, le-ltb}
 use Rattle.dominance.proofs.link_back.Statement.{statement}

@@ -1,4 +1,4 @@
--- `dominance::not_dominant` meets its contract.
+-- `dominance::not_dominant` meets its contract: the links read are the cell's (`links-read`), and the comparison says whether its row sum is below 1 (`row-sum`).
 use mathlib.Core.Path.{_≡_, sym, ap, _∙_}
 use mathlib.Core.Bool.{Bool, true, false, cond}
 use Prim.Native.Nat.{ℕ, _-_, _≤_}

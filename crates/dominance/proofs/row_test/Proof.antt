@@ -1,4 +1,4 @@
--- `dominance::row_test` meets its contract.
+-- `dominance::row_test` meets its contract: a search (`Searched`) along the row, from where the rows before it have passed, whose test is `not_dominant`.
 use Prim.Native.Nat.{_+_, _-_, _*_}
 use native.Mathlib.Omega.{arith}
 use borrow.Author.Needs.{needs}

@@ -1,13 +1,13 @@
--- `estimate::estimate` meets its contract.
+-- `estimate::estimate` meets its contract: a broken line is offered zeros (`broken-zeros`), any other what the way back makes of the steps that were kept.
 use mathlib.Core.Path.{refl, sym, ap, _∙_}
 use Prim.Native.Nat.{ℕ}
 use native.Mathlib.Omega.{arith}
 use denote.Ref.{now}
 use Rattle.model.specs.Lists.{tabulate}
 use Rattle.model.specs.Film.{Film, filmOf}
-use Rattle.estimate.specs.Line.{Eliminated}
-use Rattle.estimate.proofs.Forward.{line-known, line-weights}
-use Rattle.estimate.proofs.Backward.{broken-zeros}
+use Rattle.elimination.specs.Line.{Eliminated}
+use Rattle.elimination.proofs.Forward.{line-known, line-weights}
+use Rattle.substitution.proofs.Backward.{broken-zeros}
 use borrow.Author.Needs.{needs}
 use Rattle.estimate.proofs.estimate.Statement.{statement}
 use Rattle.estimate.proofs.estimate.Tie as tie

@@ -1,4 +1,4 @@
--- `estimate::zeros` meets its contract.
+-- `estimate::zeros` meets its contract: the table is filled place by place (`Filled` of crate `grid`) with 0, to its end.
 use mathlib.Core.Path.{_≡_, refl, sym, _∙_}
 use Prim.Native.Nat.{_-_, _≤_}
 use native.Mathlib.Omega.{arith}

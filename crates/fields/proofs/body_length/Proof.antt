@@ -1,4 +1,4 @@
--- `fields::body_length` meets its contract.
+-- `fields::body_length` meets its contract: each arm of the match is the size of that tag's field, and a tag that is not from 1 to 5 has size 0.
 use borrow.Author.Tests.{ne-eqb}
 use borrow.Author.Needs.{needs}
 use Rattle.fields.proofs.body_length.Statement.{statement}

@@ -1,5 +1,4 @@
--- `file::head_in` meets its contract.
-
+-- `file::head_in` meets its contract: rows, columns and ceiling are read at 3, 4 and 8, the offsets at which the model has them.
 use borrow.Author.Needs.{needs}
 use Rattle.file.proofs.head_in.Statement.{statement}
 use Rattle.file.proofs.head_in.Tie as tie

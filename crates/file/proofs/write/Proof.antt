@@ -1,4 +1,4 @@
--- `file::write` meets its contract.
+-- `file::write` meets its contract: the length that it asks for is the file's where the shape has passed (`save-fits`), and what passes is written.
 use mathlib.Core.Path.{_≡_, sym, ap, _∙_}
 use denote.Ref.{now}
 use mir.Facts.{toZ-ofZ}
@@ -6,7 +6,7 @@ use Rattle.model.specs.Refusals.{checkOf}
 use Rattle.model.specs.Gauge.{Gauge}
 use Rattle.model.specs.FileCalls.{gaugeOf, saveCheck}
 use Rattle.refusals.proofs.Chain.{passed}
-use Rattle.file_tests.proofs.Calls.{save-fits, save-ready, save-passed, save-refused}
+use Rattle.file.proofs.Writing.{save-fits, save-ready, save-passed, save-refused}
 use borrow.Author.Needs.{needs}
 use Rattle.file.proofs.write.Statement.{statement}
 use Rattle.file.proofs.write.Tie as tie

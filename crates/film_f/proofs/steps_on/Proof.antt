@@ -1,4 +1,4 @@
--- `film_f::steps_on` meets its contract.
+-- `film_f::steps_on` meets its contract: the public calls ask nothing, so that the arrays need only be lent whole.
 use borrow.Author.Needs.{needs}
 use Rattle.film_f.proofs.steps_on.Statement.{statement}
 use Rattle.film_f.proofs.steps_on.Tie as tie

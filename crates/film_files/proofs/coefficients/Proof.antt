@@ -1,4 +1,4 @@
--- `film_files::coefficients` meets its contract.
+-- `film_files::coefficients` meets its contract: its test leaves at most 1,024 weights, for which the four buffers have places to lend.
 use mathlib.Core.Path.{sym}
 use borrow.Author.Needs.{needs}
 use lib.Seq.{length-take-le}

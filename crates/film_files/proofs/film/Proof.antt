@@ -1,4 +1,4 @@
--- `film_files::film` meets its contract.
+-- `film_files::film` meets its contract: its test leaves at most 4,096 bytes, for which the buffer has places to lend.
 use mathlib.Core.Path.{sym}
 use borrow.Author.Needs.{needs}
 use lib.Seq.{length-take-le}

@@ -1,4 +1,4 @@
--- `film_files::main` meets its contract.
+-- `film_files::main` meets its contract: each turn leaves one argument less.
 use Prim.Native.Nat.{_≤_, _-_}
 use borrow.Author.Needs.{needs}
 use Rattle.film_files.proofs.main.Statement.{statement}

@@ -1,4 +1,4 @@
--- `film_files::signed_number` meets its contract.
+-- `film_files::signed_number` meets its contract: a number of 32 bits fits 64.
 use borrow.Author.Needs.{needs}
 use Rattle.forming.proofs.Cell.{widens}
 use Rattle.film_files.proofs.signed_number.Statement.{statement}

@@ -1,4 +1,4 @@
--- `film_files::signed_numbers` meets its contract.
+-- `film_files::signed_numbers` meets its contract: the index stays within the slice, and each turn leaves one number less.
 use Prim.Native.Nat.{_≤_, _-_}
 use borrow.Author.Needs.{needs}
 use lib.ListN.{length}

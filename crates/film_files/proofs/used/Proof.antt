@@ -1,4 +1,4 @@
--- `film_files::used` meets its contract.
+-- `film_files::used` meets its contract: its tests leave only what is within the two buffers.
 use mathlib.Core.Path.{sym}
 use borrow.Author.Needs.{needs}
 use lib.Seq.{length-take-le}
@@ -14,14 +14,8 @@ returns-2 c = search needs
 area-requires : tie.Need-area-requires
 area-requires c κs = search needs
 
-add-area : tie.Need-add-area
-add-area c = search needs
-
-add-area-2 : tie.Need-add-area-2
-add-area-2 c = search needs
-
-area-requires-2 : tie.Need-area-requires-2
-area-requires-2 c κs = search needs
+ring-requires : tie.Need-ring-requires
+ring-requires c κs = search needs
 
 returns-3 : tie.Need-returns-3
 returns-3 c = search needs
@@ -48,9 +42,7 @@ used-spec =
     returns
     returns-2
     area-requires
-    add-area
-    add-area-2
-    area-requires-2
+    ring-requires
     returns-3
     returns-4
     slice-aggregate-film

@@ -1,4 +1,4 @@
--- `forming::around_at` meets its contract.
+-- `forming::around_at` meets its contract: the five places are within the thicknesses (`places`), and are those that the model names (`around-is`).
 use lib.ListN.{length}
 use denote.Ref.{now}
 use mathlib.Core.List.{[]}

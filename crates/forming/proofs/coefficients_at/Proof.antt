@@ -1,4 +1,4 @@
--- `forming::coefficients_at` meets its contract.
+-- `forming::coefficients_at` meets its contract: `coefficients_of` gets the thicknesses around the cell, and whether a column and a row follow its own.
 use mathlib.Core.Path.{ap₂, _∙_}
 use lib.Dec.{ltb}
 use lib.IntN.{ℤ}

@@ -1,4 +1,4 @@
--- `forming::coefficients_of` meets its contract.
+-- `forming::coefficients_of` meets its contract: each number is what its function promises, and wedge and source come back from their bits unchanged.
 use mir.Facts.{toZ-ofZ}
 use borrow.Author.Needs.{needs, sfits-of}
 use Rattle.forming.proofs.coefficients_of.Statement.{statement}

@@ -1,4 +1,4 @@
--- `forming::form` meets its contract.
+-- `forming::form` meets its contract: after each turn the cells of the rows so far are written (`Written`), and past the last row all are.
 use mathlib.Core.Path.{_≡_, refl}
 use mathlib.Core.List.{[]}
 use Prim.Native.Nat.{_+_, _-_, _*_, _≤_}

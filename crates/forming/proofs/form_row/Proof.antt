@@ -1,4 +1,4 @@
--- `forming::form_row` meets its contract.
+-- `forming::form_row` meets its contract: each turn writes one more cell at its index (`written-more`), and past the row's end the first row × columns are.
 use mathlib.Core.Path.{_≡_, refl}
 use mathlib.Core.List.{[]}
 use Prim.Native.Nat.{ℕ, _+_, _-_, _*_, _≤_, _<_}

@@ -1,4 +1,4 @@
--- `forming::link` meets its contract.
+-- `forming::link` meets its contract: two thicknesses of 8 bits sum to at most 510, whose square and cube fit 32 bits (`square-low`, `link-low`).
 use native.Mathlib.Omega.{arith}
 use borrow.Author.Needs.{needs}
 use Rattle.forming.proofs.Cell.{square-low, link-low}

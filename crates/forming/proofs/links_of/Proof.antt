@@ -1,4 +1,4 @@
--- `forming::links_of` meets its contract.
+-- `forming::links_of` meets its contract: each link is at most the cube of 510 (`link-low`), so that the sum of the four fits 32 bits.
 use Prim.Native.Nat.{_+_, _*_, _≤_}
 use native.Mathlib.Omega.{arith}
 use borrow.Author.Needs.{needs}

@@ -1,4 +1,4 @@
--- `forming::source_of` meets its contract.
+-- `forming::source_of` meets its contract: a wedge number of 32 bits times a gain of at most 255 either way fits 64 bits (`source-fits`).
 use mathlib.Core.Path.{_≡_, ap₂}
 use native.Mathlib.Omega.{arith}
 use lib.IntN.{ℤ, pos, _-ℤ_, _*ℤ_}

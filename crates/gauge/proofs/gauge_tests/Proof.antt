@@ -1,4 +1,4 @@
--- `gauge::gauge_tests` meets its contract.
+-- `gauge::gauge_tests` meets its contract: the shape's test, and where it passes `sized_tests`, are the model's tests in its order (`gauge-parts`).
 use denote.Ref.{now}
 use mir.Facts.{toZ-ofZ}
 use Rattle.model.specs.Gauge.{Gauge}

@@ -1,28 +1,42 @@
--- `gauge::number_tests` meets its contract.
+-- `gauge::number_tests` meets its contract: its four tests are the model's, in its order, with the lengths and the offsets that the shape gives.
 use Rattle.refusals.proofs.Chain.{joined}
 use Rattle.gauge.proofs.Tests.{weights-low, thicknesses-low}
+use native.Mathlib.Omega.{arith}
 use mir.Facts.{toZ-ofZ}
 use borrow.Author.Needs.{needs}
 use Rattle.gauge.proofs.number_tests.Statement.{statement}
 use Rattle.gauge.proofs.number_tests.Tie as tie
 
+mul-end : tie.Need-mul-end
+mul-end c = let few = weights-low (c .before .before .pre) in omega arith
+
+add-end : tie.Need-add-end
+add-end c = let few = weights-low (c .before .before .pre) in omega arith
+
 ceiling-test-requires : tie.Need-ceiling-test-requires
 ceiling-test-requires c κs = search needs
 
-weights-test-requires : tie.Need-weights-test-requires
-weights-test-requires c κs = weights-low (c .before .before .before .pre)
+weight-test-requires : tie.Need-weight-test-requires
+weight-test-requires c κs = let few = weights-low (c .before .before .before .pre) in omega arith
+
+add-thicknesses-test : tie.Need-add-thicknesses-test
+add-thicknesses-test c = let few = weights-low (c .before .before .before .before .pre) in omega arith
 
 thicknesses-test-requires : tie.Need-thicknesses-test-requires
-thicknesses-test-requires c κs = (weights-low (c .before .before .before .before .pre), thicknesses-low (c .before .before .before .before .pre))
-
-mul-wedge-test : tie.Need-mul-wedge-test
-mul-wedge-test c = search needs
+thicknesses-test-requires c κs =
+    let pre = c .before .before .before .before .pre in
+    let few = weights-low pre in
+    let thin = thicknesses-low pre in
+    omega arith
 
 add-wedge-test : tie.Need-add-wedge-test
 add-wedge-test c = search needs
 
 add-wedge-test-2 : tie.Need-add-wedge-test-2
 add-wedge-test-2 c = search needs
+
+add-wedge-test-3 : tie.Need-add-wedge-test-3
+add-wedge-test-3 c = search needs
 
 wedge-test-requires : tie.Need-wedge-test-requires
 wedge-test-requires c κs = search needs
@@ -43,7 +57,7 @@ returns c =
     let weight = thickness .before in
     let s = weight .before .before .before .before in
     joined (c .or-else3 .ensures) (weight .before .ceiling-test .ensures)
-    (joined (c .before .or-else2 .ensures) (rw (s .pre .weights-len) at (weight .weights-test .ensures))
+    (joined (c .before .or-else2 .ensures) (rw (s .pre .weights-len) at (weight .weight-test .ensures))
     (joined (c .before .before .or-else .ensures)
     (rw (s .pre .weights-len, s .pre .thicknesses-len) at (thickness .thicknesses-test .ensures))
     (rw (s .pre .weights-len, s .pre .thicknesses-len, toZ-ofZ (s .fits .wedge)) at (wedge .wedge-test .ensures))))
@@ -52,12 +66,15 @@ pub number-tests-spec : {M : Type 1} → statement M
 number-tests-spec =
     tie.close
     (tie.spec
+    mul-end
+    add-end
     ceiling-test-requires
-    weights-test-requires
+    weight-test-requires
+    add-thicknesses-test
     thicknesses-test-requires
-    mul-wedge-test
     add-wedge-test
     add-wedge-test-2
+    add-wedge-test-3
     wedge-test-requires
     or-else-requires
     or-else-requires-2

@@ -1,4 +1,4 @@
--- `gauge::sized_tests` meets its contract.
+-- `gauge::sized_tests` meets its contract: refusal 10 is found as the model finds it, and numbers that pass are `Measured` (`lengths-pass`), as `value_tests` asks.
 use mathlib.Core.Bool.{not, _&&_}
 use denote.Ref.{now}
 use borrow.Author.Tests.{not-false}

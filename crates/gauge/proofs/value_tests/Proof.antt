@@ -1,4 +1,4 @@
--- `gauge::value_tests` meets its contract.
+-- `gauge::value_tests` meets its contract: the test of dominance, which finds the same for any wedge number, follows where `number_tests` pass, as in the model.
 use mathlib.Core.Path.{_≡_}
 use denote.Ref.{now}
 use mir.Facts.{toZ-ofZ}

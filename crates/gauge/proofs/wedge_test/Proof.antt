@@ -1,4 +1,4 @@
--- `gauge::wedge_test` meets its contract.
+-- `gauge::wedge_test` meets its contract: `far_wedge` makes the model's test, and the wedge number comes back from its bits unchanged.
 use mir.Facts.{toZ-ofZ}
 use borrow.Author.Needs.{needs}
 use Rattle.gauge.proofs.wedge_test.Statement.{statement}

@@ -1,4 +1,4 @@
--- `grid::cell_at` meets its contract.
+-- `grid::cell_at` meets its contract: the pull is `pull_at`'s, diagonal and source are read at the index, and the caller grants their limits (`loads`).
 use mir.Facts.{toZ-ofZ}
 use borrow.Author.Needs.{needs, sfits-of}
 use Rattle.grid.specs.Pull.{cellBy}

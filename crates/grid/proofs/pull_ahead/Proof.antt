@@ -1,4 +1,4 @@
--- `grid::pull_ahead` meets its contract.
+-- `grid::pull_ahead` meets its contract: past the last cell the product is 0 (`ahead-none`), and a link up to 2 ^ 26 times a number of 32 bits stays within 2 ^ 58.
 use mathlib.Core.Path.{sym}
 use native.Mathlib.Omega.{arith}
 use borrow.Author.Needs.{needs}

@@ -1,4 +1,4 @@
--- `grid::pull_at` meets its contract.
+-- `grid::pull_at` meets its contract: it is the sum of the four products of `pullBy`, each at most 2 ^ 58, so that the sum is at most 2 ^ 60.
 use native.Mathlib.Omega.{arith}
 use borrow.Author.Needs.{needs}
 use Rattle.grid.specs.Pull.{pullBy}

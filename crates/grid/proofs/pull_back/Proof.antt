@@ -1,4 +1,4 @@
--- `grid::pull_back` meets its contract.
+-- `grid::pull_back` meets its contract: both cases are those of `backOf`, and a link up to 2 ^ 26 times a number of 32 bits stays within 2 ^ 58.
 use mathlib.Core.Path.{sym, _∙_}
 use native.Mathlib.Omega.{arith}
 use borrow.Author.Needs.{needs}

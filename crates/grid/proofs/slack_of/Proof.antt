@@ -1,4 +1,4 @@
--- `grid::slack_of` meets its contract.
+-- `grid::slack_of` meets its contract: the film's limits let the cell be loaded, and the loaded cell's slack is the film's (`cell-slack`).
 use mathlib.Core.Path.{_∙_}
 use native.Mathlib.Omega.{arith}
 use mir.Facts.{toZ-ofZ}

@@ -1,4 +1,4 @@
--- `grid::widen` meets its contract.
+-- `grid::widen` meets its contract: a weight of 16 bits fits 32, and places filled one by one (`Filled`) hold the weights in the end (`fill-copy`).
 use mathlib.Core.Path.{_≡_, refl}
 use Prim.Native.Nat.{_-_, _≤_}
 use native.Mathlib.Omega.{arith}

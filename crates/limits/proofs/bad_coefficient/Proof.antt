@@ -1,4 +1,4 @@
--- `limits::bad_coefficient` meets its contract.
+-- `limits::bad_coefficient` meets its contract: its six tests are those of `badCoefficient`, and the cell's index gives back its row and column.
 use mathlib.Core.Path.{_≡_}
 use Prim.Native.Nat.{_+_, _-_}
 use native.Mathlib.Omega.{arith}

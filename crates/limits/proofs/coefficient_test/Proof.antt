@@ -1,4 +1,4 @@
--- `limits::coefficient_test` meets its contract.
+-- `limits::coefficient_test` meets its contract: a search row by row (`RowsPassed`), where the first row refused decides for all, and past the last all have passed.
 use mathlib.Core.Bool.{Bool}
 use Prim.Native.Nat.{ℕ, _-_}
 use borrow.Author.Needs.{needs}

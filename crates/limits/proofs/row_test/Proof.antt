@@ -1,4 +1,4 @@
--- `limits::row_test` meets its contract.
+-- `limits::row_test` meets its contract: a search (`Searched`) by `bad_coefficient` from the row's first cell on, the rows before having passed.
 use Prim.Native.Nat.{_+_, _-_, _*_}
 use native.Mathlib.Omega.{arith}
 use borrow.Author.Needs.{needs}

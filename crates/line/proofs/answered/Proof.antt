@@ -1,4 +1,4 @@
--- `line::answered` meets its contract.
+-- `line::answered` meets its contract: the two decisions are the two answers.
 use mathlib.Core.Path.{ap, sym}
 use borrow.Author.Needs.{needs}
 use Rattle.proposal.specs.Decision.{decisionOf}

@@ -1,4 +1,4 @@
--- `line::margin` meets its contract.
+-- `line::margin` meets its contract: its tests are the model's, in its order, and the margin of a film that passes them needs no sources.
 use mathlib.Core.Path.{_≡_, sym, ap, _∙_}
 use mathlib.Core.Bool.{true}
 use borrow.Author.Needs.{needs}
@@ -12,12 +12,16 @@ use Rattle.line.proofs.Calls.{margin-passed, margin-refused}
 use Rattle.line.proofs.margin.Statement.{statement}
 use Rattle.line.proofs.margin.Tie as tie
 
-abbrev film : tie.Start → Film
-film s = filmOf (s .args .head) (now (s .args .weights)) (now (s .args .diagonals)) (now (s .args .rights)) (now (s .args .ups)) (now (s .args .sources))
+-- the start, from the tests
+abbrev start : tie.After-film-tests → tie.Start
+start t = t .before .before .before .before .before
+
+abbrev film : tie.After-film-tests → Film
+film t = let a = start t .args in filmOf (a .head) (now (a .weights)) (now (a .diagonals)) (now (a .rights)) (now (a .ups)) (now (a .sources))
 
 -- the tests find what document 01's do
-tested : (t : tie.After-film-tests) → checkOf (t .film-tests .result) ≡ filmCheck (film (t .before .before .before .before .before))
-tested t = t .film-tests .ensures ∙ sym (film-own (film (t .before .before .before .before .before)))
+tested : (t : tie.After-film-tests) → checkOf (t .film-tests .result) ≡ filmCheck (film t)
+tested t = t .film-tests .ensures ∙ sym (film-own (film t))
 
 film-tests-requires : tie.Need-film-tests-requires
 film-tests-requires c κs = search needs
@@ -27,21 +31,17 @@ enum-told c = search needs
 
 margin-requires : tie.Need-margin-requires
 margin-requires c κs =
-    let s = c .before .before .before .before .before .before .before in
-    (now (s .args .sources), (check-passes (film s) true pass pass pass (sym (tested (c .before .before)) ∙ ap checkOf (c .enum-told .given .1))) .film)
+    let t = c .before .before in
+    (now (start t .args .sources), (check-passes (film t) true pass pass pass (sym (tested t) ∙ ap checkOf (c .enum-told .given .1))) .film)
 
 enum-known-r : tie.Need-enum-known-r
 enum-known-r c = search needs
 
 returns : tie.Need-returns
-returns c =
-    let s = c .before .before .before .before .before .before .before .before in
-    margin-passed (s .args .head) (now (s .args .weights)) _ _ _ (now (s .args .sources)) (sym (tested (c .before .before .before)) ∙ ap checkOf (c .before .enum-told .given .1)) (c .margin .ensures)
+returns c = let t = c .before .before .before in margin-passed (film t) (sym (tested t) ∙ ap checkOf (c .before .enum-told .given .1)) (c .margin .ensures)
 
 returns-2 : tie.Need-returns-2
-returns-2 c =
-    let s = c .before .before .before .before .before .before .before .before in
-    margin-refused (s .args .head) (now (s .args .weights)) _ _ _ (now (s .args .sources)) (sym (tested (c .before .before .before)) ∙ ap checkOf (c .before .r .given .1))
+returns-2 c = let t = c .before .before .before in margin-refused (film t) (sym (tested t) ∙ ap checkOf (c .before .r .given .1))
 
 pub margin-spec : {M : Type 1} → statement M
 margin-spec =

@@ -1,23 +1,38 @@
--- `line::propose` meets its contract.
+-- `line::propose` meets its contract: its tests are the model's, in its order, and what passes them is decided on from the line's first cell on.
 use mathlib.Core.Path.{_≡_, sym, ap, _∙_}
 use native.Mathlib.Omega.{arith}
 use borrow.Author.Needs.{needs}
 use denote.Ref.{now}
-use Rattle.model.specs.Refusals.{checkOf}
+use Rattle.model.specs.Refusals.{pass, checkOf}
 use Rattle.model.specs.Film.{Film, filmOf}
-use Rattle.line.proofs.Calls.{lineTests, line-tested, line-ready, propose-passed, propose-refused}
+use Rattle.line.proofs.Calls.{lineTests, line-tested, Ready, line-ready, propose-passed, propose-refused}
 use Rattle.line.proofs.propose.Statement.{statement}
 use Rattle.line.proofs.propose.Tie as tie
 
-abbrev film : tie.Start → Film
-film s = filmOf (s .args .head) (now (s .args .weights)) (now (s .args .diagonals)) (now (s .args .rights)) (now (s .args .ups)) (now (s .args .sources))
+-- the start, from the tests
+abbrev start : tie.After-field-tests → tie.Start
+start t = t .before .before .before .before .before .before .before .before .before .before
+
+abbrev film : tie.After-field-tests → Film
+film t = let a = start t .args in filmOf (a .head) (now (a .weights)) (now (a .diagonals)) (now (a .rights)) (now (a .ups)) (now (a .sources))
 
 -- the tests find what document 01's do
-tested : (t : tie.After-field-tests)
-    → checkOf (t .field-tests .result) ≡ lineTests (film (t .before .before .before .before .before .before .before .before .before .before)) (now (t .before .before .before .before .before .before .before .before .before .before .args .field)) (now (t .before .before .before .before .before .before .before .before .before .before .args .proposal)) (t .before .before .before .before .before .before .before .before .before .before .args .line)
+tested : (t : tie.After-field-tests) → let a = start t .args in
+    checkOf (t .field-tests .result) ≡ lineTests (film t) (now (a .field)) (now (a .proposal)) (a .line)
 tested t =
-    let s = t .before .before .before .before .before .before .before .before .before .before in
-    line-tested (film s) (now (s .args .field)) (now (s .args .proposal)) (s .args .line) (t .field-tests .result) (t .before .before .before .line-test .result) (t .field-tests .ensures) (t .before .before .before .line-test .ensures)
+    let a = start t .args in
+    let x = t .before .before .before .line-test in
+    line-tested (film t) (now (a .field)) (now (a .proposal)) (a .line) (t .field-tests .result) (x .result) (t .field-tests .ensures) (x .ensures)
+
+-- they have passed
+abbrev tests : tie.After-enum-told → tie.After-field-tests
+tests e = e .before .before
+
+passed : (e : tie.After-enum-told) → let a = start (tests e) .args in lineTests (film (tests e)) (now (a .field)) (now (a .proposal)) (a .line) ≡ pass
+passed e = sym (tested (tests e)) ∙ ap checkOf (e .enum-told .given .1)
+
+ready : (e : tie.After-enum-told) → let a = start (tests e) .args in Ready (film (tests e)) (now (a .field)) (now (a .proposal)) (a .line)
+ready e = let a = start (tests e) .args in line-ready (film (tests e)) (now (a .field)) (now (a .proposal)) (a .line) (passed e)
 
 line-test-requires : tie.Need-line-test-requires
 line-test-requires c κs = search needs
@@ -33,15 +48,15 @@ enum-told c = search needs
 
 line-start-requires : tie.Need-line-start-requires
 line-start-requires c κs =
-    let s = c .before .before .before .before .before .before .before .before .before .before .before .before in
-    let R = line-ready (film s) (now (s .args .field)) (now (s .args .proposal)) (s .args .line) (sym (tested (c .before .before)) ∙ ap checkOf (c .enum-told .given .1)) in
+    let R = ready c in
     (R .line-some, (omega (arith, R .line-low, R .film .limited .sized .rows-low), R .film .limited .sized .columns-low))
 
 propose-requires : tie.Need-propose-requires
 propose-requires c κs =
-    let s = c .before .before .before .before .before .before .before .before .before .before .before .before .before .before in
-    let R = line-ready (film s) (now (s .args .field)) (now (s .args .proposal)) (s .args .line) (sym (tested (c .before .before .before .before)) ∙ ap checkOf (c .before .before .enum-told .given .1)) in
-    ((now (s .args .weights), R .film .limited), (R .bounded .len, omega (arith, c .before .line-start .ensures, R .inside), R .len))
+    let l = c .before in
+    let e = l .before in
+    let R = ready e in
+    ((now (start (tests e) .args .weights), R .film .limited), (R .bounded .len, omega (arith, l .line-start .ensures, R .inside), R .len))
 
 answered-requires : tie.Need-answered-requires
 answered-requires c κs = search needs
@@ -54,19 +69,20 @@ same-length c = search needs
 
 returns : tie.Need-returns
 returns c =
-    let s = c .before .before .before .before .before .before .before .before .before .before .before .before .before .before .before .before .before .before in
     let x = c .before .before .before in
-    propose-passed (s .args .head) (now (s .args .weights)) _ _ _ _ (now (s .args .field)) (now (s .args .proposal)) (s .args .line)
-    (sym (tested (c .before .before .before .before .before .before .before .before)) ∙ ap checkOf (c .before .before .before .before .before .before .enum-told .given .1)) (rw (c .answered .ensures) (rw (x .before .before .line-start .ensures) at (x .propose .ensures)))
+    let l = x .before .before in
+    let e = l .before in
+    let a = start (tests e) .args in
+    propose-passed (film (tests e)) (now (a .field)) (now (a .proposal)) (a .line) (passed e) (rw (c .answered .ensures) (rw (l .line-start .ensures) at (x .propose .ensures)))
 
 same-length-2 : tie.Need-same-length-2
 same-length-2 c = search needs
 
 returns-2 : tie.Need-returns-2
 returns-2 c =
-    let s = c .before .before .before .before .before .before .before .before .before .before .before .before .before in
-    propose-refused (s .args .head) (now (s .args .weights)) _ _ _ _ (now (s .args .field)) (now (s .args .proposal)) (s .args .line)
-    (sym (tested (c .before .before .before)) ∙ ap checkOf (c .before .r .given .1))
+    let t = c .before .before .before in
+    let a = start t .args in
+    propose-refused (film t) (now (a .field)) (now (a .proposal)) (a .line) (sym (tested t) ∙ ap checkOf (c .before .r .given .1))
 
 pub propose-spec : {M : Type 1} → statement M
 propose-spec =

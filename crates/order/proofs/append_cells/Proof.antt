@@ -1,4 +1,4 @@
--- `order::append_cells` meets its contract.
+-- `order::append_cells` meets its contract: after each turn the cells of the parity so far stand from `start` on, and any more have room.
 use mathlib.Core.Path.{_≡_, sym, _∙_}
 use mathlib.Core.Logic.{⊎-elim}
 use Prim.Native.Nat.{_-_, _≤_, _<_}

@@ -1,4 +1,4 @@
--- `order::fill_by_index` meets its contract.
+-- `order::fill_by_index` meets its contract: after each turn the first k places hold their cells.
 use mathlib.Core.Path.{_≡_}
 use Prim.Native.Nat.{_-_, _≤_}
 use native.Mathlib.Omega.{arith}

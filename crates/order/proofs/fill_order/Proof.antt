@@ -1,4 +1,4 @@
--- `order::fill_order` meets its contract.
+-- `order::fill_order` meets its contract: orders 0 and 1 go by index, and in order 2 the odd cells follow the even ones, which together are all.
 use mathlib.Core.Path.{_∙_}
 use native.Mathlib.Omega.{arith}
 use borrow.Author.Needs.{needs}

@@ -1,4 +1,4 @@
--- `order::has_parity` meets its contract.
+-- `order::has_parity` meets its contract: row and column are at most the cell's index, so that their sum fits, and the test comes out as wanted.
 use mathlib.Core.Path.{_≡_, refl}
 use mathlib.Core.Bool.{Bool, true, false, not, cond, Bool·beq}
 use native.Mathlib.Nat.{div-le-self, mod-le}

@@ -1,4 +1,4 @@
--- `order::place_of` meets its contract.
+-- `order::place_of` meets its contract: both places are below n, and so fit 16 bits.
 use borrow.Author.Needs.{needs}
 use Rattle.order.proofs.place_of.Statement.{statement}
 use Rattle.order.proofs.place_of.Tie as tie

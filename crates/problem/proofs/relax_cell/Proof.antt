@@ -1,28 +1,35 @@
--- `problem::relax_cell` meets its contract.
+-- `problem::relax_cell` meets its contract: the visit goes to the larger of the cell's pressure and what it requires, and finds what the model's finds.
 use mathlib.Core.Path.{_≡_, ap, _∙_}
 use native.Mathlib.Omega.{arith}
 use borrow.Author.Needs.{needs}
 use denote.Ref.{now}
 use Prim.Native.Nat.{max}
 use lib.ListN.{getD}
+use Rattle.model.specs.Film.{Film, filmOf}
 use Rattle.model.specs.Relaxation.{required}
+use Rattle.model.proofs.Bare.{bare}
 use Rattle.grid.proofs.Limited.{limited-loaded}
-use Rattle.sweep.specs.Relaxation.{kindOf}
-use Rattle.problem.proofs.Calls.{raised-fits, bare, cell-required, gives-quiet, gives-raised, gives-over}
+use Rattle.visit.specs.Relaxation.{kindOf}
+use Rattle.problem.proofs.Calls.{raised-fits, cell-required, gives-quiet, gives-raised, gives-over}
 use Rattle.problem.proofs.relax_cell.Statement.{statement}
 use Rattle.problem.proofs.relax_cell.Tie as tie
 
-start : tie.After-visit-at → tie.Start
-start x = x .before .before .before .before .before .before .before .before .before .before .before
+-- the start, from where the cell is loaded
+abbrev start : tie.After-cell-at-arg → tie.Start
+start k = k .before .before .before .before .before .before .before
+
+-- the film, with the weights that its limits are known of
+abbrev film : tie.Start → Film
+film s = filmOf (s .args .head) (s .pre .0 .0) (now (s .args .diagonals)) (now (s .args .rights)) (now (s .args .ups)) (now (s .args .sources))
 
 -- the target is the larger of the cell's pressure and what it requires
-target : (x : tie.After-visit-at) → x .before .before .raise .result
-    ≡ max (getD (now (start x .args .field)) (start x .args .at) 0) (required (bare (start x .args .head) (now (start x .args .diagonals)) (now (start x .args .rights)) (now (start x .args .ups)) (now (start x .args .sources))) (now (start x .args .field)) (start x .args .at))
-unfolding start
-target x =
-    let r = x .before .before in
-    let s = x .before .before .before .before .before .before .before .before .before .before .before in
-    r .raise .ensures ∙ ap (max _) (cell-required (s .args .head) _ _ _ _ (s .pre .0 .0) (now (s .args .field)) (s .args .at) (s .pre .0 .1) (s .pre .1 .1) (r .before .cell-at .result) (r .before .cell-at .ensures .is))
+target : (r : tie.After-raise) → let s = start (r .before .before) in
+    r .raise .result ≡ max (getD (now (s .args .field)) (s .args .at) 0) (required (bare (film s)) (now (s .args .field)) (s .args .at))
+target r =
+    let l = r .before in
+    let s = start (l .before) in
+    r .raise .ensures
+    ∙ ap (max _) (cell-required (film s) (now (s .args .field)) (s .args .at) (s .pre .0 .1) (s .pre .1 .1) (l .cell-at .result) (l .cell-at .ensures .is))
 
 mul-pressure : tie.Need-mul-pressure
 mul-pressure c = search needs
@@ -35,7 +42,7 @@ cast-columns c = search needs
 
 cell-at-requires : tie.Need-cell-at-requires
 cell-at-requires c κs =
-    let s = c .before .before .before .before .before .before .before in
+    let s = start c in
     (limited-loaded (s .pre .0 .1) (s .pre .1 .0), omega arith)
 
 raise-requires : tie.Need-raise-requires
@@ -60,22 +67,19 @@ same-length : tie.Need-same-length
 same-length c = search needs
 
 returns : tie.Need-returns
-unfolding start
-returns c = let x = c .before .before .before .before in gives-quiet _ (x .visit-at .ensures) (target x) (ap kindOf (c .enum-told .given .1))
+returns c = let x = c .before .before .before .before in gives-quiet _ (x .visit-at .ensures) (target (x .before .before)) (ap kindOf (c .enum-told .given .1))
 
 same-length-2 : tie.Need-same-length-2
 same-length-2 c = search needs
 
 returns-2 : tie.Need-returns-2
-unfolding start
-returns-2 c = let x = c .before .before .before .before in gives-raised _ (x .visit-at .ensures) (target x) (ap kindOf (c .enum-told2 .given .1))
+returns-2 c = let x = c .before .before .before .before in gives-raised _ (x .visit-at .ensures) (target (x .before .before)) (ap kindOf (c .enum-told2 .given .1))
 
 same-length-3 : tie.Need-same-length-3
 same-length-3 c = search needs
 
 returns-3 : tie.Need-returns-3
-unfolding start
-returns-3 c = let x = c .before .before .before .before in gives-over _ (x .visit-at .ensures) (target x) (ap kindOf (c .enum-told3 .given .1))
+returns-3 c = let x = c .before .before .before .before in gives-over _ (x .visit-at .ensures) (target (x .before .before)) (ap kindOf (c .enum-told3 .given .1))
 
 pub relax-cell-spec : {M : Type 1} → statement M
 relax-cell-spec =

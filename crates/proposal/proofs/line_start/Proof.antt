@@ -1,4 +1,4 @@
--- `proposal::line_start` meets its contract.
+-- `proposal::line_start` meets its contract: a line is at least 1, and (line − 1) × columns is at most 32 × 32, so it fits.
 use native.Mathlib.Nat.{mul-le-mul}
 use native.Mathlib.Omega.{arith}
 use Prim.Native.Nat.{_-_, _*_, _≤_}

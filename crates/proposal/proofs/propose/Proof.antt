@@ -1,4 +1,4 @@
--- `proposal::propose` meets its contract.
+-- `proposal::propose` meets its contract: the buffer has room for every cell, and the decision on the new field is the one on the proposal (`propose-by`).
 use mathlib.Core.Path.{sym, _∙_}
 use mathlib.Core.List.{[]}
 use native.Mathlib.Omega.{arith}

@@ -1,4 +1,4 @@
--- `proposal::settle` meets its contract.
+-- `proposal::settle` meets its contract: its three tests together are `accepts` (`all-hold`, `one-fails`), and the field is written only where all hold.
 use mathlib.Core.List.{[]}
 use borrow.Author.Needs.{needs}
 use Rattle.model.specs.Film.{filmOf}

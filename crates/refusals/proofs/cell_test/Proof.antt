@@ -1,4 +1,4 @@
--- `refusals::cell_test` meets its contract.
+-- `refusals::cell_test` meets its contract: what `area` returns is rows × columns, and `fail_if` refuses an index from there on.
 use borrow.Author.Needs.{needs}
 use Rattle.refusals.proofs.cell_test.Statement.{statement}
 use Rattle.refusals.proofs.cell_test.Tie as tie

@@ -1,4 +1,4 @@
--- `refusals::fail_if` meets its contract.
+-- `refusals::fail_if` meets its contract: each branch of the `if` is its case of `failIf`, and a refusal reads as its fault's number and place.
 use borrow.Author.Needs.{needs}
 use Rattle.refusals.proofs.fail_if.Statement.{statement}
 use Rattle.refusals.proofs.fail_if.Tie as tie

@@ -1,4 +1,4 @@
--- `refusals::or_else` meets its contract.
+-- `refusals::or_else` meets its contract: each arm of the match is a case of the model's `orElse`.
 use borrow.Author.Needs.{needs}
 use Rattle.refusals.proofs.or_else.Statement.{statement}
 use Rattle.refusals.proofs.or_else.Tie as tie

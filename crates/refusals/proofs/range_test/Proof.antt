@@ -1,4 +1,4 @@
--- `refusals::range_test` meets its contract.
+-- `refusals::range_test` meets its contract: `outside` answers as the model's does, and `fail_if` refuses on its answer.
 use borrow.Author.Needs.{needs}
 use Rattle.refusals.proofs.range_test.Statement.{statement}
 use Rattle.refusals.proofs.range_test.Tie as tie

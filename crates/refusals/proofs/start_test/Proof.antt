@@ -1,4 +1,4 @@
--- `refusals::start_test` meets its contract.
+-- `refusals::start_test` meets its contract: a search (`Searched`) whose test is the ceiling against the cell's pressure, and whose place is the cell.
 use mathlib.Core.Path.{refl}
 use Prim.Native.Nat.{_-_}
 use borrow.Author.Needs.{needs}

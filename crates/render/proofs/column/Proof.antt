@@ -1,4 +1,4 @@
--- `render::column` meets its contract.
+-- `render::column` meets its contract: the columns are at least 1, and the remainder is at most the index (`mod-le`), so that 1 more fits.
 use native.Mathlib.Nat.{mod-le}
 use native.Mathlib.Omega.{arith}
 use borrow.Author.Needs.{needs}

@@ -1,4 +1,4 @@
--- `render::peak` meets its contract.
+-- `render::peak` meets its contract: after each turn `best` is the model's peak of the first i cells (`Peaked`), and only a greater pressure replaces it.
 use mathlib.Core.Logic.{⊎-elim}
 use Prim.Native.Nat.{_-_, _<_}
 use denote.Ref.{now}

@@ -1,4 +1,4 @@
--- `render::put_cell` meets its contract.
+-- `render::put_cell` meets its contract: row, column, pressure and slack, as `report_lines::put_cell` gets them, are those of the model's line (`line-is`).
 use mathlib.Core.Path.{_≡_, sym, subst}
 use mathlib.Core.List.{List, []}
 use Prim.Native.Nat.{ℕ, _≤_}
@@ -11,7 +11,8 @@ use borrow.Author.Needs.{sfits-of}
 use Rattle.model.specs.Film.{Film, filmOf}
 use Rattle.model.specs.Report.{cellLine}
 use Rattle.grid.proofs.Limited.{size-low}
-use Rattle.text.specs.Writes.{Fits, Writes, cellText}
+use Rattle.text.specs.Writes.{Fits, Writes}
+use Rattle.report_lines.specs.Lines.{cellText}
 use borrow.Author.Needs.{needs}
 use Rattle.render.proofs.put_cell.Statement.{statement}
 use Rattle.render.proofs.put_cell.Tie as tie

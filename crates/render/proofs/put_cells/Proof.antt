@@ -1,4 +1,4 @@
--- `render::put_cells` meets its contract.
+-- `render::put_cells` meets its contract: after each turn the first i lines are written, and where all lines have room the next one has (`line-fits`).
 use mathlib.Core.Path.{_≡_, subst}
 use mathlib.Core.List.{[]}
 use Prim.Native.Nat.{ℕ, _*_, _-_, _<_, _≤_}

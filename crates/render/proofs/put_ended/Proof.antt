@@ -1,4 +1,4 @@
--- `render::put_ended` meets its contract.
+-- `render::put_ended` meets its contract: the answer's line and then the field's text are the whole (`writes-then`), and the second has room behind the first.
 use Rattle.text.proofs.Writes.{fits-first, fits-rest, writes-then}
 use borrow.Author.Needs.{needs}
 use Rattle.render.proofs.put_ended.Statement.{statement}

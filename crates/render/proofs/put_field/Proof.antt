@@ -1,4 +1,4 @@
--- `render::put_field` meets its contract.
+-- `render::put_field` meets its contract: the cells' lines and then the peak's are the text; the peak is a cell of the grid, and the line is its own (`line-is`).
 use mathlib.Core.Path.{_≡_, sym, ap, _∙_, subst}
 use mathlib.Core.List.{List, []}
 use Prim.Native.Nat.{ℕ, _*_, _≤_, _<_}
@@ -8,7 +8,8 @@ use denote.Ref.{now}
 use Rattle.model.specs.Film.{Film, filmOf}
 use Rattle.model.specs.Report.{peakOf, peakLine}
 use Rattle.grid.proofs.Limited.{size-low}
-use Rattle.text.specs.Writes.{Fits, Writes, peakText}
+use Rattle.text.specs.Writes.{Fits, Writes}
+use Rattle.report_lines.specs.Lines.{peakText}
 use Rattle.render.proofs.Greatest.{peak-inside, peak-line}
 use Rattle.text.proofs.Writes.{fits-first, fits-rest, writes-then}
 use borrow.Author.Needs.{needs}

@@ -1,4 +1,4 @@
--- `render::put_over` meets its contract.
+-- `render::put_over` meets its contract: the answer's line and then the line of the cell's row and column, one after the other, are the text (`writes-then`).
 use Rattle.model.specs.Report.{overWord, answerLine}
 use Rattle.text.proofs.Writes.{fits-first, fits-rest, writes-then}
 use borrow.Author.Needs.{needs}

@@ -1,4 +1,4 @@
--- `render::put_refused` meets its contract.
+-- `render::put_refused` meets its contract: the number that `told::number_of` gives is the fault's, and with it `put_counted` writes the model's line.
 use mathlib.Core.Path.{subst, sym}
 use Prim.Native.Nat.{ℕ}
 use denote.Ref.{now}
@@ -13,6 +13,9 @@ slice-aggregate-put-counted c = search needs
 
 number-of-requires : tie.Need-number-of-requires
 number-of-requires c κs = search needs
+
+cast-put-counted : tie.Need-cast-put-counted
+cast-put-counted c = search needs
 
 put-counted-requires : tie.Need-put-counted-requires
 put-counted-requires c κs =
@@ -34,6 +37,7 @@ put-refused-spec =
     (tie.spec
     slice-aggregate-put-counted
     number-of-requires
+    cast-put-counted
     put-counted-requires
     same-length
     returns)

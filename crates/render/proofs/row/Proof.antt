@@ -1,4 +1,4 @@
--- `render::row` meets its contract.
+-- `render::row` meets its contract: the columns are at least 1, and the quotient is at most the index (`div-le-self`), so that 1 more fits.
 use native.Mathlib.Nat.{div-le-self}
 use native.Mathlib.Omega.{arith}
 use borrow.Author.Needs.{needs}

@@ -1,4 +1,5 @@
--- `report::put_film` meets its contract.
+-- `report::put_film` meets its contract: the coefficients are formed at the starts of buffers that hold any film's, and with the weights they are the
+-- formed film, which its tests have accepted.
 use mathlib.Core.Path.{_≡_, sym, subst}
 use Prim.Native.Nat.{_≤_}
 use native.Mathlib.Omega.{arith}
@@ -24,8 +25,15 @@ use Rattle.report.proofs.put_film.Tie as tie
 abbrev gauge : tie.Start → Gauge
 gauge s = gaugeOf (s .args .head) (now (s .args .weights)) (now (s .args .thicknesses)) (s .args .wedge)
 
+-- the start, from where the coefficients are formed, and from there on; and the forming, from where its buffers are back
+abbrev entry : tie.After-sources → tie.Start
+entry k = k .before .before .before .before .before .before .before
+
 abbrev start : tie.After-form → tie.Start
-start f = f .before .before .before .before .before .before .before .before
+start f = entry (f .before)
+
+abbrev back : tie.After-sources2 → tie.After-form
+back b = b .before .before .before .before
 
 accepted : (s : tie.Start) → Accepted (formed (gauge s))
 accepted s = formed-accepted (gauge s) (s .pre .0 .0) (s .pre .0 .1)
@@ -60,7 +68,7 @@ slice-aggregate-form-4 c = search needs
 
 form-requires : tie.Need-form-requires
 form-requires c κs =
-    let s = c .before .before .before .before .before .before .before in
+    let s = entry c in
     let shape = gauge-shape (gauge s) (gauge-passes (gauge s) (s .pre .0 .1) .numbers .shape) in
     let n = low s in
     let v = s .pre .0 .0 in (
@@ -80,38 +88,38 @@ form-requires c κs =
     )
 
 array-share-prefix-diagonals : tie.Need-array-share-prefix-diagonals
-array-share-prefix-diagonals c = let f = c .before .before .before .before in omega (arith, low (start f), f .form .kept .1 .1 .1 .0)
+array-share-prefix-diagonals c = let f = back c in omega (arith, low (start f), f .form .kept .1 .1 .1 .0)
 
 slice-aggregate-put-run : tie.Need-slice-aggregate-put-run
-slice-aggregate-put-run c = let f = c .before .before .before .before .before in sym (length-take-le _ _ (omega (arith, low (start f), f .form .kept .1 .1 .1 .0)))
+slice-aggregate-put-run c = let f = back (c .before) in sym (length-take-le _ _ (omega (arith, low (start f), f .form .kept .1 .1 .1 .0)))
 
 array-share-prefix-rights : tie.Need-array-share-prefix-rights
-array-share-prefix-rights c = let f = c .before .before .before .before .before in omega (arith, low (start f), f .form .kept .1 .1 .1 .1 .0)
+array-share-prefix-rights c = let f = back (c .before) in omega (arith, low (start f), f .form .kept .1 .1 .1 .1 .0)
 
 slice-aggregate-put-run-2 : tie.Need-slice-aggregate-put-run-2
-slice-aggregate-put-run-2 c = let f = c .before .before .before .before .before .before in sym (length-take-le _ _ (omega (arith, low (start f), f .form .kept .1 .1 .1 .1 .0)))
+slice-aggregate-put-run-2 c = let f = back (c .before .before) in sym (length-take-le _ _ (omega (arith, low (start f), f .form .kept .1 .1 .1 .1 .0)))
 
 array-share-prefix-ups : tie.Need-array-share-prefix-ups
-array-share-prefix-ups c = let f = c .before .before .before .before .before .before in omega (arith, low (start f), f .form .kept .1 .1 .1 .1 .1 .0)
+array-share-prefix-ups c = let f = back (c .before .before) in omega (arith, low (start f), f .form .kept .1 .1 .1 .1 .1 .0)
 
 slice-aggregate-put-run-3 : tie.Need-slice-aggregate-put-run-3
-slice-aggregate-put-run-3 c = let f = c .before .before .before .before .before .before .before in sym (length-take-le _ _ (omega (arith, low (start f), f .form .kept .1 .1 .1 .1 .1 .0)))
+slice-aggregate-put-run-3 c = let f = back (c .before .before .before) in sym (length-take-le _ _ (omega (arith, low (start f), f .form .kept .1 .1 .1 .1 .1 .0)))
 
 array-share-prefix-sources : tie.Need-array-share-prefix-sources
-array-share-prefix-sources c = let f = c .before .before .before .before .before .before .before in omega (arith, low (start f), f .form .kept .1 .1 .1 .1 .1 .1 .0)
+array-share-prefix-sources c = let f = back (c .before .before .before) in omega (arith, low (start f), f .form .kept .1 .1 .1 .1 .1 .1 .0)
 
 slice-aggregate-put-run-4 : tie.Need-slice-aggregate-put-run-4
-slice-aggregate-put-run-4 c = let f = c .before .before .before .before .before .before .before .before in sym (length-take-le _ _ (omega (arith, low (start f), f .form .kept .1 .1 .1 .1 .1 .1 .0)))
+slice-aggregate-put-run-4 c = let f = back (c .before .before .before .before) in sym (length-take-le _ _ (omega (arith, low (start f), f .form .kept .1 .1 .1 .1 .1 .1 .0)))
 
 array-borrow-prefix-field : tie.Need-array-borrow-prefix-field
-array-borrow-prefix-field c = omega (arith, low (c .before .before .before .before .before .before .before .before .before .before .before .before .before .before .before .before))
+array-borrow-prefix-field c = omega (arith, low (start (back (c .before .before .before .before))))
 
 slice-aggregate-put-run-5 : tie.Need-slice-aggregate-put-run-5
-slice-aggregate-put-run-5 c = sym (length-take-le _ _ (omega (arith, low (c .before .before .before .before .before .before .before .before .before .before .before .before .before .before .before .before .before))))
+slice-aggregate-put-run-5 c = sym (length-take-le _ _ (omega (arith, low (start (back (c .before .before .before .before .before))))))
 
 put-run-requires : tie.Need-put-run-requires
 put-run-requires c κs =
-    let f = c .before .before .before .before .before .before .before .before .before .before in
+    let f = back (c .before .before .before .before .before .before) in
     let s = start f in (
       (subst Accepted (sym (film-is f)) (accepted s), take-zeros (length (now (s .args .weights))) 1024 (low s) (s .pre .0 .0 .weights-len)),
       subst (λ (x : Film). Fits (filmReport x) (now (s .args .out)) 0) (sym (film-is f)) (s .pre .1),
@@ -123,7 +131,7 @@ same-length c = search needs
 returns : tie.Need-returns
 returns c =
     let p = c .before .before .before in
-    let f = p .before .before .before .before .before .before .before .before .before .before .before in
+    let f = back (p .before .before .before .before .before .before .before) in
     let s = start f in
     subst (λ (x : Film). Writes (filmReport x) (now (s .args .out)) 0 (p .put-run .last .1 .1 .1 .1 .1 .1 .1 .0) (p .put-run .result)) (film-is f) (p .put-run .ensures)
 

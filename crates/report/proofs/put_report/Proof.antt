@@ -1,4 +1,4 @@
--- `report::put_report` meets its contract.
+-- `report::put_report` meets its contract: what was read is the film that the model reads, whose numbers stand at the starts of the buffers, or its refusal.
 use mathlib.Core.Path.{_≡_, sym, ap, subst}
 use mathlib.Core.Bool.{true}
 use mathlib.Core.List.{List}
@@ -57,28 +57,28 @@ refused r =
     let e = r .before .before .before .before in
     refusal-report (length-replicate {A = ℕ} 1024 0) (length-replicate {A = ℕ} 1156 0) (subst (λ a. Loads (now (start e .args .file)) (replicate 1024 0) (replicate 1156 0) a (e .read .last .1 .0) (e .read .last .1 .1 .0)) (ap loadAnswerOf (r .r .given .1)) (e .read .ensures))
 
-abbrev area : tie.After-area2 → tie.After-area
-area c = c .before .before .before
+abbrev area : tie.After-ring → tie.After-area
+area c = c .before
 
-abbrev found : tie.After-area2 → tie.After-head
+abbrev found : tie.After-ring → tie.After-head
 found c = area c .before .before
 
 -- the buffers' starts hold them
-same : (c : tie.After-area2) → let h = found c in
-    gaugeOf (h .head .given .0 .0) (take (area c .area .result) (read h .read .last .1 .0)) (take (c .area2 .result) (read h .read .last .1 .1 .0)) (toZ w32 (ofZ w32 (h .head .given .0 .1 .0))) ≡ gauge h
+same : (c : tie.After-ring) → let h = found c in
+    gaugeOf (h .head .given .0 .0) (take (area c .area .result) (read h .read .last .1 .0)) (take (c .ring .result) (read h .read .last .1 .1 .0)) (toZ w32 (ofZ w32 (h .head .given .0 .1 .0))) ≡ gauge h
 same c =
     let h = found c in
-    λ k. gaugeOf (h .head .given .0 .0) (take ((area c .area .ensures) k) (read h .read .last .1 .0)) (take ((c .area2 .ensures) k) (read h .read .last .1 .1 .0)) ((slope (area c .before)) k)
+    λ k. gaugeOf (h .head .given .0 .0) (take ((area c .area .ensures) k) (read h .read .last .1 .0)) (take ((c .ring .ensures) k) (read h .read .last .1 .1 .0)) ((slope (area c .before)) k)
 
-weights-room : (c : tie.After-area2) → area c .area .result ≤ length (read (found c) .read .last .1 .0)
+weights-room : (c : tie.After-ring) → area c .area .result ≤ length (read (found c) .read .last .1 .0)
 weights-room c =
     let h = found c in
     omega (arith, area c .area .ensures, cells-low _ _ (shape h .rows-low) (shape h .columns-low), read h .read .kept .1 .0)
 
-thicknesses-room : (c : tie.After-area2) → c .area2 .result ≤ length (read (found c) .read .last .1 .1 .0)
+thicknesses-room : (c : tie.After-ring) → c .ring .result ≤ length (read (found c) .read .last .1 .1 .0)
 thicknesses-room c =
     let h = found c in
-    omega (arith, c .area2 .ensures, ring-low _ _ (shape h .rows-low) (shape h .columns-low), read h .read .kept .1 .1 .0)
+    omega (arith, c .ring .ensures, ring-low _ _ (shape h .rows-low) (shape h .columns-low), read h .read .kept .1 .1 .0)
 
 slice-aggregate-read : tie.Need-slice-aggregate-read
 slice-aggregate-read c = search needs
@@ -95,14 +95,8 @@ enum-known-head c = search needs
 area-requires : tie.Need-area-requires
 area-requires c κs = search needs
 
-add-area : tie.Need-add-area
-add-area c = record { fits = omega (arith, shape (c .before .before .before) .rows-low) }
-
-add-area-2 : tie.Need-add-area-2
-add-area-2 c = record { fits = omega (arith, shape (c .before .before .before .before) .columns-low) }
-
-area-requires-2 : tie.Need-area-requires-2
-area-requires-2 c κs = search needs
+ring-requires : tie.Need-ring-requires
+ring-requires c κs = let w = shape (c .before .before) in omega (arith, w .rows-low, w .columns-low)
 
 array-share-prefix-weights : tie.Need-array-share-prefix-weights
 array-share-prefix-weights c = weights-room c
@@ -164,9 +158,7 @@ put-report-spec =
     read-requires
     enum-known-head
     area-requires
-    add-area
-    add-area-2
-    area-requires-2
+    ring-requires
     array-share-prefix-weights
     slice-aggregate-put-film
     array-share-prefix-thicknesses

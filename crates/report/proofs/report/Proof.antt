@@ -1,4 +1,4 @@
--- `report::report` meets its contract.
+-- `report::report` meets its contract: a buffer that could not hold the longest report is refused, and any other holds this one (`report-fits`).
 use denote.Ref.{now}
 use Rattle.model.specs.File.{Bytes}
 use Rattle.report.proofs.Texts.{short-refused, long-fits, long-written}

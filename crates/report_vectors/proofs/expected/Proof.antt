@@ -1,4 +1,4 @@
--- `report_vectors::expected` meets its contract.
+-- `report_vectors::expected` meets its contract: no more bytes are read than the buffer holds.
 use mathlib.Core.Path.{sym}
 use lib.Seq.{length-take-le}
 use borrow.Author.Needs.{needs}

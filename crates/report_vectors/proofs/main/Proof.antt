@@ -1,4 +1,4 @@
--- `report_vectors::main` meets its contract.
+-- `report_vectors::main` meets its contract: each turn leaves one pair of arguments less, and their numbers do not wrap.
 use Prim.Native.Nat.{_-_, _≤_}
 use borrow.Author.Needs.{needs}
 use Rattle.report_vectors.proofs.main.Statement.{statement}

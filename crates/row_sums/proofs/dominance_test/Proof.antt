@@ -1,4 +1,4 @@
--- `row_sums::dominance_test` meets its contract.
+-- `row_sums::dominance_test` meets its contract: a search row by row (`RowsPassed`), and the sources do not enter its test (`every-wedge`).
 use mathlib.Core.Path.{_≡_, refl, _∙_}
 use mathlib.Core.List.{List}
 use Prim.Native.Nat.{ℕ, _-_}

@@ -1,4 +1,4 @@
--- `row_sums::not_dominant` meets its contract.
+-- `row_sums::not_dominant` meets its contract: inside the grid its links are the formed film's, all four add up to its diagonal, and the comparison is `row-sum`.
 use Prim.Native.Nat.{_≤_, _^_}
 use native.Mathlib.Omega.{arith}
 use borrow.Author.Needs.{needs}

@@ -1,4 +1,4 @@
--- `row_sums::row_test` meets its contract.
+-- `row_sums::row_test` meets its contract: a search (`Searched`) by `not_dominant` from the row's first cell on, the rows before having passed.
 use Prim.Native.Nat.{_+_, _-_, _*_}
 use native.Mathlib.Omega.{arith}
 use borrow.Author.Needs.{needs}

@@ -1,22 +1,34 @@
--- `run::run` meets its contract.
+-- `run::run` meets its contract: its tests are the model's, in its order, and a film and a field that pass them are readied, and then relaxed, as the
+-- model does.
 use mathlib.Core.Path.{_≡_, sym, ap, _∙_}
 use borrow.Author.Needs.{needs}
 use denote.Ref.{now}
-use Rattle.model.specs.Refusals.{checkOf}
+use Rattle.model.specs.Refusals.{pass, checkOf}
 use Rattle.model.specs.Film.{Film, filmOf}
-use Rattle.run.proofs.Proposals.{ready-bounded, runTests, run-tested, run-ready, run-passed, run-refused}
+use Rattle.own_proposals.proofs.Proposals.{ready-bounded}
+use Rattle.run.proofs.Calls.{runTests, run-tested, run-ready, run-passed, run-refused}
 use Rattle.run.proofs.run.Statement.{statement}
 use Rattle.run.proofs.run.Tie as tie
 
-abbrev film : tie.Start → Film
-film s = filmOf (s .args .head) (now (s .args .weights)) (now (s .args .diagonals)) (now (s .args .rights)) (now (s .args .ups)) (now (s .args .sources))
+-- the start, from the tests
+abbrev start : tie.After-field-tests → tie.Start
+start t = t .before .before .before .before .before .before .before .before
+
+abbrev film : tie.After-field-tests → Film
+film t = let a = start t .args in filmOf (a .head) (now (a .weights)) (now (a .diagonals)) (now (a .rights)) (now (a .ups)) (now (a .sources))
 
 -- the tests find what document 01's do
-tested : (t : tie.After-field-tests)
-    → checkOf (t .field-tests .result) ≡ runTests (film (t .before .before .before .before .before .before .before .before)) (now (t .before .before .before .before .before .before .before .before .args .field)) (t .before .before .before .before .before .before .before .before .args .order)
+tested : (t : tie.After-field-tests) → let a = start t .args in checkOf (t .field-tests .result) ≡ runTests (film t) (now (a .field)) (a .order)
 tested t =
-    let s = t .before .before .before .before .before .before .before .before in
-    run-tested (film s) (now (s .args .field)) (s .args .order) (t .field-tests .result) (t .before .before .order-test .result) (t .field-tests .ensures) (t .before .before .order-test .ensures)
+    let a = start t .args in
+    run-tested (film t) (now (a .field)) (a .order) (t .field-tests .result) (t .before .before .order-test .result) (t .field-tests .ensures) (t .before .before .order-test .ensures)
+
+-- they have passed
+abbrev tests : tie.After-enum-told → tie.After-field-tests
+tests e = e .before .before
+
+passed : (e : tie.After-enum-told) → let a = start (tests e) .args in runTests (film (tests e)) (now (a .field)) (a .order) ≡ pass
+passed e = sym (tested (tests e)) ∙ ap checkOf (e .enum-told .given .1)
 
 order-test-requires : tie.Need-order-test-requires
 order-test-requires c κs = search needs
@@ -29,15 +41,18 @@ enum-told c = search needs
 
 ready-requires : tie.Need-ready-requires
 ready-requires c κs =
-    let s = c .before .before .before .before .before .before .before .before .before .before .before in
-    let P = run-ready (film s) (now (s .args .field)) (s .args .order) (sym (tested (c .before .before .before)) ∙ ap checkOf (c .before .enum-told .given .1)) in
+    let e = c .before in
+    let a = start (tests e) .args in
+    let P = run-ready (film (tests e)) (now (a .field)) (a .order) (passed e) in
     (P .film, P .bounded)
 
 relaxations-requires : tie.Need-relaxations-requires
 relaxations-requires c κs =
-    let s = c .before .before .before .before .before .before .before .before .before .before .before .before .before .before .before in
-    let P = run-ready (film s) (now (s .args .field)) (s .args .order) (sym (tested (c .before .before .before .before .before .before .before)) ∙ ap checkOf (c .before .before .before .before .before .enum-told .given .1)) in
-    ((now (s .args .weights), P .film .limited), ready-bounded (film s) (P .film) (s .args .budget) (s .args .proposals) (now (s .args .field)) _ _ (P .bounded) (c .before .before .before .ready .ensures) .len)
+    let r = c .before .before .before in
+    let e = r .before .before in
+    let a = start (tests e) .args in
+    let P = run-ready (film (tests e)) (now (a .field)) (a .order) (passed e) in
+    ((now (a .weights), P .film .limited), ready-bounded (film (tests e)) (P .film) (a .budget) (a .proposals) (now (a .field)) _ _ (P .bounded) (r .ready .ensures) .len)
 
 enum-known-r : tie.Need-enum-known-r
 enum-known-r c = search needs
@@ -47,18 +62,20 @@ same-length c = search needs
 
 returns : tie.Need-returns
 returns c =
-    let s = c .before .before .before .before .before .before .before .before .before .before .before .before .before .before .before .before .before .before in
-    run-passed (s .args .head) (now (s .args .weights)) _ _ _ _ (now (s .args .field)) (s .args .budget) (s .args .order) (s .args .proposals) (c .before .before .before .before .before .before .ready .result) _
-    (sym (tested (c .before .before .before .before .before .before .before .before .before .before)) ∙ ap checkOf (c .before .before .before .before .before .before .before .before .enum-told .given .1)) (c .before .before .before .before .before .before .ready .ensures) (c .before .before .relaxations .ensures)
+    let x = c .before .before in
+    let r = x .before .before .before .before in
+    let e = r .before .before in
+    let a = start (tests e) .args in
+    run-passed (film (tests e)) (now (a .field)) (a .budget) (a .order) (a .proposals) (r .ready .result) _ (passed e) (r .ready .ensures) (x .relaxations .ensures)
 
 same-length-2 : tie.Need-same-length-2
 same-length-2 c = search needs
 
 returns-2 : tie.Need-returns-2
 returns-2 c =
-    let s = c .before .before .before .before .before .before .before .before .before .before .before in
-    run-refused (s .args .head) (now (s .args .weights)) _ _ _ _ (now (s .args .field)) (s .args .budget) (s .args .order) (s .args .proposals)
-    (sym (tested (c .before .before .before)) ∙ ap checkOf (c .before .r .given .1))
+    let t = c .before .before .before in
+    let a = start t .args in
+    run-refused (film t) (now (a .field)) (a .budget) (a .order) (a .proposals) (sym (tested t) ∙ ap checkOf (c .before .r .given .1))
 
 pub run-spec : {M : Type 1} → statement M
 run-spec =

@@ -1,4 +1,4 @@
--- `sweep::advance` meets its contract.
+-- `sweep::advance` meets its contract: the table's cell lies in the field, its relaxation is the rule's, and `judged` says what that leaves to do (`advanced-by`).
 use native.Mathlib.Omega.{arith}
 use borrow.Author.Needs.{needs}
 use Rattle.sweep.proofs.Turn.{advanced-by}

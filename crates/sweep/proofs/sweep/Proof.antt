@@ -1,8 +1,8 @@
--- `sweep::sweep` meets its contract.
+-- `sweep::sweep` meets its contract: after each turn the rest of the budget leads to the end of the theory's sweep (`Running`), and each answer names that end.
 use Prim.Native.Nat.{_-_}
 use native.Mathlib.Omega.{arith}
 use borrow.Author.Needs.{needs}
-use Rattle.sweep.specs.Rule.{requiredBy}
+use Rattle.relaxation.specs.Rule.{requiredBy}
 use Rattle.sweep.proofs.Turn.{loaded-long, Running, running-begin, running-place, running-room, running-listed, running-stopped, running-next, running-done, running-over, running-less, advanced-long}
 use Rattle.sweep.proofs.sweep.Statement.{statement}
 use Rattle.sweep.proofs.sweep.Tie as tie

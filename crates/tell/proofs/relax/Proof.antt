@@ -1,6 +1,7 @@
--- `tell::relax` meets its contract.
+-- `tell::relax` meets its contract: by answer, which the match has told; a refusal is told by `told::refused`.
 use mathlib.Core.Path.{refl}
 use borrow.Author.Needs.{needs}
+use Rattle.tell.proofs.Answered.{answered}
 use Rattle.tell.proofs.relax.Statement.{statement}
 use Rattle.tell.proofs.relax.Tie as tie
 
@@ -20,16 +21,16 @@ refused-requires : tie.Need-refused-requires
 refused-requires c κs = search needs
 
 returns : tie.Need-returns
-returns c = search needs
+returns c = rw (c .before .enum-told .given .1) (record { told = answered; result-is = refl })
 
 returns-2 : tie.Need-returns-2
-returns-2 c = rw (c .before .before .answer .given .1) (record { told = record { number-is = refl; place-is = refl }; result-is = refl })
+returns-2 c = rw (c .before .before .answer .given .1) (record { told = answered; result-is = refl })
 
 returns-3 : tie.Need-returns-3
-returns-3 c = search needs
+returns-3 c = rw (c .before .enum-told2 .given .1) (record { told = answered; result-is = refl })
 
 returns-4 : tie.Need-returns-4
-returns-4 c = search needs
+returns-4 c = rw (c .before .before .before .answer2 .given .1) (record { told = c .refused .ensures; result-is = refl })
 
 pub relax-spec : {M : Type 1} → statement M
 relax-spec =

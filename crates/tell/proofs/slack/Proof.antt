@@ -1,7 +1,8 @@
--- `tell::slack` meets its contract.
+-- `tell::slack` meets its contract: by answer, which the match has told; a slack that fits its 64 bits is told as it is.
 use mathlib.Core.Path.{refl}
 use mir.Facts.{toZ-ofZ}
 use borrow.Author.Needs.{needs}
+use Rattle.tell.proofs.Answered.{answered}
 use Rattle.tell.proofs.slack.Statement.{statement}
 use Rattle.tell.proofs.slack.Tie as tie
 
@@ -15,10 +16,10 @@ refused-requires : tie.Need-refused-requires
 refused-requires c κs = search needs
 
 returns : tie.Need-returns
-returns c = rw (c .before .answer .given .1) (record { told = record { number-is = refl; place-is = refl }; slack-is = toZ-ofZ (record { sfits = c .known-told .given .0 .1 }) })
+returns c = rw (c .before .answer .given .1) (record { told = answered; slack-is = toZ-ofZ (record { sfits = c .known-told .given .0 .1 }) })
 
 returns-2 : tie.Need-returns-2
-returns-2 c = search needs
+returns-2 c = rw (c .before .before .before .answer2 .given .1) (record { told = c .refused .ensures; slack-is = refl })
 
 pub slack-spec : {M : Type 1} → statement M
 slack-spec =

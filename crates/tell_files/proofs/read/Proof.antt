@@ -1,4 +1,4 @@
--- `tell_files::read` meets its contract.
+-- `tell_files::read` meets its contract: by answer, which the match has told; a wedge that fits its 32 bits is told as it is.
 use mathlib.Core.Path.{refl}
 use mir.Facts.{toZ-ofZ}
 use borrow.Author.Needs.{needs}

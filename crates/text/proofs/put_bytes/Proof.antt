@@ -1,4 +1,4 @@
--- `text::put_bytes` meets its contract.
+-- `text::put_bytes` meets its contract: after each turn the first i bytes stand from `at` on, and no other place has changed.
 use mathlib.Core.Path.{_≡_, refl, sym, ap}
 use Prim.Native.Nat.{_+_, _-_}
 use native.Mathlib.Omega.{arith}

@@ -1,4 +1,4 @@
--- `text::put_signed` meets its contract.
+-- `text::put_signed` meets its contract: a number below 0 is a minus sign and its drop, any other its lift.
 use mathlib.Core.Path.{_≡_, ap, _∙_}
 use mathlib.Core.List.{[], _∷_, _++_}
 use mir.Facts.{toZ-ofZ}

@@ -1,4 +1,4 @@
--- `cell::Cell::bearing` meets its contract.
+-- `cell::Cell::bearing` meets its contract: the source comes back from its bits unchanged, and the limits leave the sum room.
 use native.Mathlib.Omega.{arith}
 use mathlib.Core.Path.{_≡_, ap, _∙_}
 use Rattle.model.specs.Integers.{lift}

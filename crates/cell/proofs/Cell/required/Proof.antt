@@ -1,4 +1,4 @@
--- `cell::Cell::required` meets its contract.
+-- `cell::Cell::required` meets its contract: a cell that bears its load at 0 requires 0, and any other the quotient of the definition.
 use native.Mathlib.Omega.{arith}
 use native.Mathlib.Nat.{mul-zero}
 use mathlib.Core.Path.{ap}

@@ -1,5 +1,7 @@
--- `cell::Cell::slack` meets its contract.
+-- `cell::Cell::slack` meets its contract: bearing − load is the slack, and the limits keep both within 2 ^ 62.
+use mathlib.Core.Path.{sym, ap₂, _∙_}
 use native.Mathlib.Omega.{arith}
+use lib.IntN.{subℕ}
 use mir.Facts.{toZ-ofZ}
 use borrow.Author.Needs.{sfits-of}
 use Rattle.cell.proofs.Limits.{bearing-small, load-small, slack-split}
@@ -21,7 +23,10 @@ difference-requires c κs =
 returns : tie.Need-returns
 returns c =
     let s = c .before .before .before in
-    cc (toZ-ofZ (sfits-of (c .difference .ok)), slack-split (s .args .self) (s .args .pressure))
+    toZ-ofZ (sfits-of (c .difference .ok))
+    ∙ c .difference .ensures
+    ∙ ap₂ subℕ (c .before .before .bearing .ensures) (c .before .load .ensures)
+    ∙ sym (slack-split (s .args .self) (s .args .pressure))
 
 pub slack-spec : {M : Type 1} → statement M
 slack-spec = tie.close (tie.spec bearing-requires load-requires difference-requires returns)

@@ -1,9 +1,12 @@
--- `film_c::film_form` meets its contract.
+-- `film_c::film_form` meets its contract: the public call promises its answer for the head that `head_of` makes, and `tell_files::form` tells it.
 use mir.Facts.{toZ-ofZ}
 use borrow.Author.Needs.{needs}
 use Rattle.film_c.proofs.Told.{form-told}
 use Rattle.film_c.proofs.files.film_form.Statement.{statement}
 use Rattle.film_c.proofs.files.film_form.Tie as tie
+
+head-of-requires : tie.Need-head-of-requires
+head-of-requires c κs = search needs
 
 form-requires : tie.Need-form-requires
 form-requires c κs = search needs
@@ -25,8 +28,9 @@ same-length-4 c = search needs
 
 returns : tie.Need-returns
 returns c =
-    let f = c .before .before .before .before .before .before .before .before .before in
-    form-told (rw (toZ-ofZ (f .before .before .before .before .before .before .before .before .before .before .fits .wedge)) at (f .form .ensures)) (c .form2 .ensures)
+    let called = c .before .before .before .before .before .before .before .before .before in
+    let made = called .before .before .before .before .before in
+    form-told (rw (made .head-of .ensures, toZ-ofZ (made .before .before .before .before .before .before .fits .wedge)) at (called .form .ensures)) (c .form2 .ensures)
 
 pub film-form-spec : {M : Type 1} → statement M
-film-form-spec = tie.close (tie.spec form-requires form-requires-2 same-length same-length-2 same-length-3 same-length-4 returns)
+film-form-spec = tie.close (tie.spec head-of-requires form-requires form-requires-2 same-length same-length-2 same-length-3 same-length-4 returns)

@@ -1,4 +1,4 @@
--- `film_c::film_read` meets its contract.
+-- `film_c::film_read` meets its contract: the public call promises its answer, and `tell_files::read` tells it.
 use borrow.Author.Needs.{needs}
 use Rattle.film_c.proofs.Told.{read-told}
 use Rattle.film_c.proofs.files.film_read.Statement.{statement}

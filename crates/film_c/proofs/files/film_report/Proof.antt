@@ -1,4 +1,4 @@
--- `film_c::film_report` meets its contract.
+-- `film_c::film_report` meets its contract: the public call promises its answer, and `tell_files::report` tells it.
 use borrow.Author.Needs.{needs}
 use Rattle.film_c.proofs.Told.{leaves}
 use Rattle.film_c.proofs.files.film_report.Statement.{statement}

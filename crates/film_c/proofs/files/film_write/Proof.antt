@@ -1,9 +1,12 @@
--- `film_c::film_write` meets its contract.
+-- `film_c::film_write` meets its contract: the public call promises its answer for the head that `head_of` makes, and `tell_files::write` tells it.
 use mir.Facts.{toZ-ofZ}
 use borrow.Author.Needs.{needs}
 use Rattle.film_c.proofs.Told.{leaves}
 use Rattle.film_c.proofs.files.film_write.Statement.{statement}
 use Rattle.film_c.proofs.files.film_write.Tie as tie
+
+head-of-requires : tie.Need-head-of-requires
+head-of-requires c κs = search needs
 
 write-requires : tie.Need-write-requires
 write-requires c κs = search needs
@@ -16,8 +19,9 @@ same-length c = search needs
 
 returns : tie.Need-returns
 returns c =
-    let f = c .before .before .before .before in
-    leaves (rw (toZ-ofZ (f .before .before .before .before .before .fits .wedge)) at (f .write .ensures)) (c .write2 .ensures)
+    let called = c .before .before .before .before in
+    let made = called .before .before in
+    leaves (rw (made .head-of .ensures, toZ-ofZ (made .before .before .before .before .fits .wedge)) at (called .write .ensures)) (c .write2 .ensures)
 
 pub film-write-spec : {M : Type 1} → statement M
-film-write-spec = tie.close (tie.spec write-requires write-requires-2 same-length returns)
+film-write-spec = tie.close (tie.spec head-of-requires write-requires write-requires-2 same-length returns)

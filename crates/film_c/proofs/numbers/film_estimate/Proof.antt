@@ -1,8 +1,11 @@
--- `film_c::film_estimate` meets its contract.
+-- `film_c::film_estimate` meets its contract: the public call promises its answer for the head that `head_of` makes, and `tell::estimate` tells it.
 use borrow.Author.Needs.{needs}
 use Rattle.film_c.proofs.Told.{leaves}
 use Rattle.film_c.proofs.numbers.film_estimate.Statement.{statement}
 use Rattle.film_c.proofs.numbers.film_estimate.Tie as tie
+
+head-of-requires : tie.Need-head-of-requires
+head-of-requires c κs = search needs
 
 estimate-requires : tie.Need-estimate-requires
 estimate-requires c κs = search needs
@@ -14,7 +17,9 @@ same-length : tie.Need-same-length
 same-length c = search needs
 
 returns : tie.Need-returns
-returns c = leaves (c .before .before .before .before .estimate .ensures) (c .estimate2 .ensures)
+returns c =
+    let called = c .before .before .before .before in
+    leaves (rw (called .before .before .head-of .ensures) at (called .estimate .ensures)) (c .estimate2 .ensures)
 
 pub film-estimate-spec : {M : Type 1} → statement M
-film-estimate-spec = tie.close (tie.spec estimate-requires estimate-requires-2 same-length returns)
+film-estimate-spec = tie.close (tie.spec head-of-requires estimate-requires estimate-requires-2 same-length returns)

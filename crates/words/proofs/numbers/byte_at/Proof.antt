@@ -1,4 +1,4 @@
--- `words::numbers::byte_at` meets its contract.
+-- `words::numbers::byte_at` meets its contract: inside the file the byte is read, and past its end the model's byte is 0 too (`List·getD-eq-default`).
 use denote.Ref.{now}
 use mathlib.Core.Path.{sym}
 use lib.ListN.{List·getD-eq-default}

@@ -1,4 +1,4 @@
--- `words::numbers::first_word` meets its contract.
+-- `words::numbers::first_word` meets its contract: a byte is below 256, so that remainder and quotient by 256 are the two bytes, which change places.
 use native.Mathlib.Omega.{arith}
 use borrow.Author.Needs.{needs}
 use Rattle.words.proofs.numbers.first_word.Statement.{statement}

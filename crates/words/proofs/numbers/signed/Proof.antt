@@ -1,5 +1,4 @@
--- `words::numbers::signed` meets its contract.
-
+-- `words::numbers::signed` meets its contract: below 2 ^ 31 the number is its bits, and from there on −1 less what they lack to 2 ^ 32 − 1 (`met`).
 use mathlib.Core.Path.{_≡_, ap, _∙_}
 use Prim.Native.Nat.{_-_}
 use native.Mathlib.Omega.{arith}

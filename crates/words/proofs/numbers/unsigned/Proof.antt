@@ -1,5 +1,4 @@
--- `words::numbers::unsigned` meets its contract.
-
+-- `words::numbers::unsigned` meets its contract: −1 less a number below 0 is what its bits lack to 2 ^ 32 − 1 (`Below`), and any other is its bits (`Above`).
 use mathlib.Core.Path.{ap, _∙_}
 use lib.IntN.{natAbs}
 use mathlib.Core.Path.{_≡_}

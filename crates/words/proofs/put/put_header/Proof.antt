@@ -1,5 +1,4 @@
--- `words::put::put_header` meets its contract.
-
+-- `words::put::put_header` meets its contract: the tag, and behind it the two bytes that `put_word` writes, are the three bytes of the header.
 use native.Mathlib.Omega.{arith}
 use native.Mathlib.Numerals.{add-one}
 use lib.ListN.{length-set}

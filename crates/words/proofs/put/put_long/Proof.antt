@@ -1,4 +1,4 @@
--- `words::put::put_long` meets its contract.
+-- `words::put::put_long` meets its contract: quotient and remainder by 65536 fit 16 bits, and their words, one after the other, are the four bytes (`sets-next`).
 use denote.Ref.{now}
 use Rattle.model.specs.Bytes.{word}
 use Prim.Native.Nat.{_+_, _/_, _%_}

@@ -1,4 +1,4 @@
--- `words::put::put_weights` meets its contract.
+-- `words::put::put_weights` meets its contract: after each turn the bytes of the first i weights stand from `at` on (`Put`), two for each (`weights-front`).
 use denote.Ref.{now}
 use lib.ListN.{take}
 use mathlib.Core.Path.{refl}

@@ -1,4 +1,4 @@
--- `words::put::put_word` meets its contract.
+-- `words::put::put_word` meets its contract: of a number up to 65535, quotient and remainder by 256 fit a byte each, and one after the other they are its bytes.
 use native.Mathlib.Omega.{arith}
 use native.Mathlib.Numerals.{add-one}
 use lib.ListN.{length-set}

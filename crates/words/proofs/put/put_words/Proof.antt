@@ -1,4 +1,4 @@
--- `words::put::put_words` meets its contract.
+-- `words::put::put_words` meets its contract: after each turn the first i numbers stand from the buffer's start on, and no other place has changed (`Put`).
 use denote.Ref.{now}
 use lib.Seq.{length-take-le}
 use mathlib.Core.Path.{refl}

@@ -1,0 +1,4 @@
+-- Laws that the proofs of the functions, and other crates, share.
+pub mod RightSide
+pub mod Chain
+pub mod Forward

@@ -1,7 +1,0 @@
--- Laws that the proofs of the functions, and other crates, share.
-pub mod Inside
-pub mod LeastMargin
-pub mod RightSide
-pub mod Chain
-pub mod Forward
-pub mod Backward

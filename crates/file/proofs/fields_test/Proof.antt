@@ -1,0 +1,54 @@
+-- `file::fields_test` meets its contract: the shape that it reads is the one that the model reads, and a byte is at most 255.
+use Prim.Native.Nat.{_+_, _≤_}
+use native.Mathlib.Nat.{mul-le-mul}
+use native.Mathlib.Omega.{arith}
+use borrow.Author.Needs.{needs}
+use Rattle.file.proofs.fields_test.Statement.{statement}
+use Rattle.file.proofs.fields_test.Tie as tie
+
+byte-at-requires : tie.Need-byte-at-requires
+byte-at-requires c κs = search needs
+
+cast-rows : tie.Need-cast-rows
+cast-rows c = search needs
+
+byte-at-requires-2 : tie.Need-byte-at-requires-2
+byte-at-requires-2 c κs = search needs
+
+cast-columns : tie.Need-cast-columns
+cast-columns c = search needs
+
+area-requires : tie.Need-area-requires
+area-requires c κs = search needs
+
+ring-requires : tie.Need-ring-requires
+ring-requires c κs = search needs
+
+fields-test-requires : tie.Need-fields-test-requires
+fields-test-requires c κs =
+    let area = c .before in
+    let columns = area .before in
+    let rows = columns .before in
+    let rows-low : rows .byte-at .result ≤ 255 = omega arith in
+    let columns-low : columns .byte-at2 .result ≤ 255 = omega arith in
+    (rw (area .area .ensures) (mul-le-mul rows-low columns-low), rw (c .ring .ensures) (mul-le-mul {n₁ = rows .byte-at .result + 2} {m₁ = columns .byte-at2 .result + 2} {n₂ = 257} {m₂ = 257} (omega arith) (omega arith)))
+
+returns : tie.Need-returns
+returns c =
+    let ring = c .before in
+    let area = ring .before in
+    let columns = area .before in
+    rw (ring .ring .ensures, area .area .ensures, columns .byte-at2 .ensures, columns .before .byte-at .ensures) at (c .fields-test .ensures)
+
+pub fields-test-spec : {M : Type 1} → statement M
+fields-test-spec =
+    tie.close
+    (tie.spec
+    byte-at-requires
+    cast-rows
+    byte-at-requires-2
+    cast-columns
+    area-requires
+    ring-requires
+    fields-test-requires
+    returns)

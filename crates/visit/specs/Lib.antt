@@ -1,0 +1,2 @@
+-- What the contracts cite beside the theory.
+pub mod Relaxation
