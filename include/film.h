@@ -39,22 +39,40 @@
 extern "C" {
 #endif
 
+/* A film's head: its shape and its ceiling. Make one by named members (in C++ before C++20: from {}, and then member by member),
+ *
+ *    film_head head = { .rows = 16, .columns = 32, .ceiling = 4000 };
+ *
+ * so that members which come later are 0, and a film that says nothing of them stays what it is. The library takes a head as an array of
+ * these numbers in this order; a struct of three uint32_t has the layout of the array. */
+typedef struct film_head {
+    uint32_t rows;    /* R, 1 to 32 */
+    uint32_t columns; /* C, 1 to 32 */
+    uint32_t ceiling; /* 1 to 16,777,216 pressure steps */
+} film_head;
+
+#if defined(__cplusplus) && __cplusplus >= 201103L
+static_assert(sizeof(film_head) == 3 * sizeof(uint32_t), "film_head has the layout of an array");
+#elif defined(__STDC_VERSION__) && __STDC_VERSION__ >= 201112L
+_Static_assert(sizeof(film_head) == 3 * sizeof(uint32_t), "film_head has the layout of an array");
+#endif
+
 /* Reads a film file. `weights` has 1,024 elements and `thicknesses` 1,156, whatever the film; those beyond the film's N and T keep their
- * contents. Writes rows, columns and ceiling to head[0], head[1], head[2], and the wedge.
+ * contents. Writes the film's head and its wedge.
  * Refusals: 10, then the fields in their order, each with 1, 2, 3 and its values (4, 5, 6, 7, 8), then 2 for what follows, then 9. */
 uint32_t film_read(const uint8_t *file, size_t file_len,
                    uint16_t *weights, size_t weights_len, uint8_t *thicknesses, size_t thicknesses_len,
-                   uint32_t head[3], int32_t *wedge, size_t *place);
+                   film_head *head, int32_t *wedge, size_t *place);
 
 /* Writes a film's file. `weights` has N elements, `thicknesses` T, and `out` exactly the file's length, 25 + 2 * N + T.
  * Refusals: 4, 10, 5, 6, 7, 8, 9. */
-uint32_t film_write(uint32_t rows, uint32_t columns, uint32_t ceiling,
+uint32_t film_write(const film_head *head,
                     const uint16_t *weights, size_t weights_len, const uint8_t *thicknesses, size_t thicknesses_len,
                     int32_t wedge, uint8_t *out, size_t out_len, size_t *place);
 
 /* Forms the coefficients of a film from its thicknesses and wedge. `weights`, `diagonals`, `rights`, `ups` and `sources` have N elements,
  * `thicknesses` has T. Refusals: 4, 10, 5, 6, 7, 8, 9. */
-uint32_t film_form(uint32_t rows, uint32_t columns, uint32_t ceiling,
+uint32_t film_form(const film_head *head,
                    const uint16_t *weights, size_t weights_len, const uint8_t *thicknesses, size_t thicknesses_len,
                    int32_t wedge,
                    uint32_t *diagonals, size_t diagonals_len, uint32_t *rights, size_t rights_len,
@@ -66,21 +84,21 @@ uint32_t film_form(uint32_t rows, uint32_t columns, uint32_t ceiling,
 /* Relaxes cell `at` of the field. Writes to result[0]: 0 if the cell is quiet, 1 if it was raised, 2 if it would pass the ceiling; and to
  * result[1] the pressure that it was raised to, else 0. The field changes in that cell alone, and only if it was raised.
  * Refusals: 4, 5, 10, 14, 6, 9, 12, 13. */
-uint32_t film_relax(uint32_t rows, uint32_t columns, uint32_t ceiling,
+uint32_t film_relax(const film_head *head,
                     const uint16_t *weights, size_t weights_len, const uint32_t *diagonals, size_t diagonals_len,
                     const uint32_t *rights, size_t rights_len, const uint32_t *ups, size_t ups_len,
                     const int64_t *sources, size_t sources_len,
                     uint32_t *field, size_t field_len, size_t at, uint32_t result[2], size_t *place);
 
 /* Writes the slack of cell `at` of the field to *slack. Refusals: 4, 5, 10, 14, 6, 9, 12, 13. */
-uint32_t film_slack(uint32_t rows, uint32_t columns, uint32_t ceiling,
+uint32_t film_slack(const film_head *head,
                     const uint16_t *weights, size_t weights_len, const uint32_t *diagonals, size_t diagonals_len,
                     const uint32_t *rights, size_t rights_len, const uint32_t *ups, size_t ups_len,
                     const int64_t *sources, size_t sources_len,
                     const uint32_t *field, size_t field_len, size_t at, int64_t *slack, size_t *place);
 
 /* Writes the film's margin to *margin. Refusals: 4, 5, 10, 14, 6, 9. */
-uint32_t film_margin(uint32_t rows, uint32_t columns, uint32_t ceiling,
+uint32_t film_margin(const film_head *head,
                      const uint16_t *weights, size_t weights_len, const uint32_t *diagonals, size_t diagonals_len,
                      const uint32_t *rights, size_t rights_len, const uint32_t *ups, size_t ups_len,
                      const int64_t *sources, size_t sources_len,
@@ -89,7 +107,7 @@ uint32_t film_margin(uint32_t rows, uint32_t columns, uint32_t ceiling,
 /* Proposes the C pressures of `proposal` for a line. Writes to result[0] 1 if they were accepted, 0 if they were rejected; and to
  * result[1] the number of cells raised. A rejected proposal leaves the field as it was.
  * Refusals: 4, 5, 10, 14, 6, 9, 12, 13. */
-uint32_t film_propose(uint32_t rows, uint32_t columns, uint32_t ceiling,
+uint32_t film_propose(const film_head *head,
                       const uint16_t *weights, size_t weights_len, const uint32_t *diagonals, size_t diagonals_len,
                       const uint32_t *rights, size_t rights_len, const uint32_t *ups, size_t ups_len,
                       const int64_t *sources, size_t sources_len,
@@ -97,7 +115,7 @@ uint32_t film_propose(uint32_t rows, uint32_t columns, uint32_t ceiling,
                       const uint32_t *proposal, size_t proposal_len, uint32_t result[2], size_t *place);
 
 /* Writes the program's own proposal for a line into the C elements of `proposal`. Refusals: 4, 5, 10, 14, 6, 9, 12, 13. */
-uint32_t film_estimate(uint32_t rows, uint32_t columns, uint32_t ceiling,
+uint32_t film_estimate(const film_head *head,
                        const uint16_t *weights, size_t weights_len, const uint32_t *diagonals, size_t diagonals_len,
                        const uint32_t *rights, size_t rights_len, const uint32_t *ups, size_t ups_len,
                        const int64_t *sources, size_t sources_len,
@@ -109,7 +127,7 @@ uint32_t film_estimate(uint32_t rows, uint32_t columns, uint32_t ceiling,
  * result[2] the raises among them, to result[3] the cells raised by proposals; and, if over, the cell that would pass the ceiling to *cell,
  * which is left as it was otherwise. Done leaves the least field at or above the start that meets the film.
  * Refusals: 4, 5, 10, 14, 6, 9, 11, 12. */
-uint32_t film_run(uint32_t rows, uint32_t columns, uint32_t ceiling,
+uint32_t film_run(const film_head *head,
                   const uint16_t *weights, size_t weights_len, const uint32_t *diagonals, size_t diagonals_len,
                   const uint32_t *rights, size_t rights_len, const uint32_t *ups, size_t ups_len,
                   const int64_t *sources, size_t sources_len,

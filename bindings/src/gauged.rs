@@ -1,7 +1,7 @@
 //! Films: a gauged pad with its coefficients.
 
 use crate::answers::{Order, Outcome, Proposed, Relaxed};
-use crate::raw::{self, Formed, Gauge, Problem, Ran};
+use crate::raw::{self, Formed, Gauge, Head, Problem, Ran};
 use crate::refusal::{tested, Refusal};
 use crate::Field;
 
@@ -10,9 +10,7 @@ use crate::Field;
 /// Cells are counted by index from 0, by rows; lines, which are rows of the grid, from 1.
 #[derive(Clone, Debug, PartialEq, Eq)]
 pub struct Film {
-    rows: u32,
-    columns: u32,
-    ceiling: u32,
+    head: Head,
     weights: Vec<u16>,
     thicknesses: Vec<u8>,
     wedge: i32,
@@ -55,7 +53,7 @@ impl Film {
     /// Reads a film file.
     pub fn read(file: &[u8]) -> Result<Film, Refusal> {
         let (mut weights, mut thicknesses) = (vec![0; 1_024], vec![0; 1_156]);
-        let (mut head, mut wedge, mut place) = ([0; 3], 0, 0);
+        let (mut head, mut wedge, mut place) = (Head::default(), 0, 0);
         let number = raw::read(
             file,
             &mut weights,
@@ -65,35 +63,27 @@ impl Film {
             &mut place,
         );
         tested(number, place)?;
-        let [rows, columns, ceiling] = head;
-        weights.truncate(area(rows, columns));
-        thicknesses.truncate(area(rows + 2, columns + 2));
-        Film::from_parts(rows, columns, ceiling, weights, thicknesses, wedge)
+        weights.truncate(area(head.rows, head.columns));
+        thicknesses.truncate(area(head.rows + 2, head.columns + 2));
+        Film::from_parts(head, weights, thicknesses, wedge)
     }
 
     /// Makes a film from its numbers: a weight for each cell by index, and thicknesses for rows 0
     /// to `rows` + 1 and in each of them columns 0 to `columns` + 1, the boundary ring included.
     pub fn from_parts(
-        rows: u32,
-        columns: u32,
-        ceiling: u32,
+        head: Head,
         weights: Vec<u16>,
         thicknesses: Vec<u8>,
         wedge: i32,
     ) -> Result<Film, Refusal> {
-        let gauge = Gauge {
-            rows,
-            columns,
-            ceiling,
+        let coefficients = Coefficients::form(Gauge {
+            head: &head,
             weights: &weights,
             thicknesses: &thicknesses,
             wedge,
-        };
-        let coefficients = Coefficients::form(gauge)?;
+        })?;
         Ok(Film {
-            rows,
-            columns,
-            ceiling,
+            head,
             weights,
             thicknesses,
             wedge,
@@ -105,9 +95,7 @@ impl Film {
     /// writes that file's own bytes.
     pub fn write(&self) -> Result<Vec<u8>, Refusal> {
         let gauge = Gauge {
-            rows: self.rows,
-            columns: self.columns,
-            ceiling: self.ceiling,
+            head: &self.head,
             weights: &self.weights,
             thicknesses: &self.thicknesses,
             wedge: self.wedge,
@@ -124,12 +112,12 @@ impl Film {
 impl Film {
     /// Rows of the grid, 1 to 32.
     pub fn rows(&self) -> u32 {
-        self.rows
+        self.head.rows
     }
 
     /// Columns of the grid, 1 to 32.
     pub fn columns(&self) -> u32 {
-        self.columns
+        self.head.columns
     }
 
     /// Cells of the grid.
@@ -139,7 +127,7 @@ impl Film {
 
     /// The upper bound of every pressure, 1 to 16,777,216 steps.
     pub fn ceiling(&self) -> u32 {
-        self.ceiling
+        self.head.ceiling
     }
 
     /// A weight for each cell. With them for pressures, and no source, every slack is at least 1:
@@ -263,7 +251,7 @@ impl Film {
 
     /// The program's own proposal for a line, worked in binary64 from the field as it stands.
     pub fn estimate(&self, field: &Field, line: u32) -> Result<Vec<u32>, Refusal> {
-        let mut proposal = vec![0; self.columns as usize];
+        let mut proposal = vec![0; self.head.columns as usize];
         let mut place = 0;
         let number = raw::estimate(
             self.problem(),
@@ -278,9 +266,7 @@ impl Film {
 
     fn problem(&self) -> Problem<'_> {
         Problem {
-            rows: self.rows,
-            columns: self.columns,
-            ceiling: self.ceiling,
+            head: &self.head,
             weights: &self.weights,
             diagonals: &self.coefficients.diagonals,
             rights: &self.coefficients.rights,

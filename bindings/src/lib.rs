@@ -9,11 +9,12 @@
 //! film's numbers and gives the calls Rust's types.
 //!
 //! ```
-//! use film::{Field, Film, Order, Outcome};
+//! use film::{Field, Film, Head, Order, Outcome};
 //!
 //! // Film F: one row of two cells inside a ring of boundary thicknesses.
+//! let head = Head { rows: 1, columns: 2, ceiling: 100 };
 //! let thicknesses = vec![1, 1, 1, 1, 3, 2, 1, 1, 1, 1, 1, 1];
-//! let film = Film::from_parts(1, 2, 100, vec![1, 1], thicknesses, 100)?;
+//! let film = Film::from_parts(head, vec![1, 1], thicknesses, 100)?;
 //! let mut field = Field::zero(&film);
 //! let outcome = film.run(&mut field, 1_000, Order::Forward, false)?;
 //! assert!(matches!(outcome, Outcome::Done(_)));
@@ -24,12 +25,13 @@
 mod answers;
 mod field;
 mod gauged;
-mod raw;
+pub mod raw;
 mod refusal;
 mod report;
 
 pub use answers::{Counts, Order, Outcome, Proposed, Relaxed};
 pub use field::Field;
 pub use gauged::Film;
+pub use raw::Head;
 pub use refusal::Refusal;
 pub use report::report;

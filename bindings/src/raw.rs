@@ -1,63 +1,74 @@
 //! The library's C functions, and for each a safe function on slices. All `unsafe` is here.
 //!
+//! For callers with slices of their own, and for calls that the types of this package leave out: the
+//! comparison with the oracle and the measurements make theirs through it.
+//!
 //! Why the calls are sound: the functions ask nothing of the numbers that they get. Any lengths and
 //! values are answered or refused, and proved to be. What C can't promise, Rust's types do here:
 //! each pointer comes from a reference that lives through the call, each length is that of the same
-//! slice, and what is written was lent by `&mut`, so nothing else points to it. No function keeps a
-//! pointer, calls back or unwinds.
+//! slice, and what is written was lent by `&mut`, so nothing else points to it. [`Head`] is laid out
+//! as C's struct. No function keeps a pointer, calls back or unwinds.
 //!
 //! Each answers 0, or the number of a refusal; then `place` has its place and nothing else has
 //! changed.
 
+/// A film's shape and ceiling: C's `film_head`.
+#[repr(C)]
+#[derive(Clone, Copy, Debug, Default, PartialEq, Eq)]
+pub struct Head {
+    /// Rows of the grid, 1 to 32.
+    pub rows: u32,
+    /// Columns of the grid, 1 to 32.
+    pub columns: u32,
+    /// The upper bound of every pressure, 1 to 16,777,216 steps.
+    pub ceiling: u32,
+}
+
 /// A film as coefficients, one number of each slice a cell.
 #[derive(Clone, Copy)]
-pub(crate) struct Problem<'a> {
-    pub(crate) rows: u32,
-    pub(crate) columns: u32,
-    pub(crate) ceiling: u32,
-    pub(crate) weights: &'a [u16],
-    pub(crate) diagonals: &'a [u32],
-    pub(crate) rights: &'a [u32],
-    pub(crate) ups: &'a [u32],
-    pub(crate) sources: &'a [i64],
+pub struct Problem<'a> {
+    pub head: &'a Head,
+    pub weights: &'a [u16],
+    pub diagonals: &'a [u32],
+    pub rights: &'a [u32],
+    pub ups: &'a [u32],
+    pub sources: &'a [i64],
 }
 
 /// A film as it was gauged: the numbers of a film file.
 #[derive(Clone, Copy)]
-pub(crate) struct Gauge<'a> {
-    pub(crate) rows: u32,
-    pub(crate) columns: u32,
-    pub(crate) ceiling: u32,
-    pub(crate) weights: &'a [u16],
-    pub(crate) thicknesses: &'a [u8],
-    pub(crate) wedge: i32,
+pub struct Gauge<'a> {
+    pub head: &'a Head,
+    pub weights: &'a [u16],
+    pub thicknesses: &'a [u8],
+    pub wedge: i32,
 }
 
 /// Lent slices that `form` fills.
-pub(crate) struct Formed<'a> {
-    pub(crate) diagonals: &'a mut [u32],
-    pub(crate) rights: &'a mut [u32],
-    pub(crate) ups: &'a mut [u32],
-    pub(crate) sources: &'a mut [i64],
+pub struct Formed<'a> {
+    pub diagonals: &'a mut [u32],
+    pub rights: &'a mut [u32],
+    pub ups: &'a mut [u32],
+    pub sources: &'a mut [i64],
 }
 
 /// What a run tells.
 #[derive(Clone, Copy, Debug, Default, PartialEq, Eq)]
-pub(crate) struct Ran {
+pub struct Ran {
     /// 0 done, 1 stopped, 2 over; visits; raises; cells raised by proposals.
-    pub(crate) result: [u32; 4],
+    pub result: [u32; 4],
     /// The cell of over; else unchanged.
-    pub(crate) cell: usize,
-    pub(crate) place: usize,
+    pub cell: usize,
+    pub place: usize,
 }
 
-/// Reads a film file into `weights`, 1,024 of them, and `thicknesses`, 1,156. `head` gets rows,
-/// columns and ceiling.
-pub(crate) fn read(
+/// Reads a film file into `weights`, 1,024 of them, and `thicknesses`, 1,156.
+#[inline]
+pub fn read(
     file: &[u8],
     weights: &mut [u16],
     thicknesses: &mut [u8],
-    head: &mut [u32; 3],
+    head: &mut Head,
     wedge: &mut i32,
     place: &mut usize,
 ) -> u32 {
@@ -79,14 +90,13 @@ pub(crate) fn read(
 }
 
 /// Writes a film file into `out`, which must have exactly its length.
-pub(crate) fn write(gauge: Gauge, out: &mut [u8], place: &mut usize) -> u32 {
+#[inline]
+pub fn write(gauge: Gauge, out: &mut [u8], place: &mut usize) -> u32 {
     // SAFETY: weights and thicknesses are read within their lengths; `out` is written within its
     // own, and it and `place` are lent by `&mut`.
     unsafe {
         film_write(
-            gauge.rows,
-            gauge.columns,
-            gauge.ceiling,
+            gauge.head,
             gauge.weights.as_ptr(),
             gauge.weights.len(),
             gauge.thicknesses.as_ptr(),
@@ -100,14 +110,13 @@ pub(crate) fn write(gauge: Gauge, out: &mut [u8], place: &mut usize) -> u32 {
 }
 
 /// Forms coefficients.
-pub(crate) fn form(gauge: Gauge, formed: Formed, place: &mut usize) -> u32 {
+#[inline]
+pub fn form(gauge: Gauge, formed: Formed, place: &mut usize) -> u32 {
     // SAFETY: weights and thicknesses are read within their lengths; the four slices are written
     // within theirs, and they and `place` are lent by `&mut`, so that none overlaps another.
     unsafe {
         film_form(
-            gauge.rows,
-            gauge.columns,
-            gauge.ceiling,
+            gauge.head,
             gauge.weights.as_ptr(),
             gauge.weights.len(),
             gauge.thicknesses.as_ptr(),
@@ -127,7 +136,8 @@ pub(crate) fn form(gauge: Gauge, formed: Formed, place: &mut usize) -> u32 {
 }
 
 /// Relaxes cell `at`. `result`: 0 quiet, 1 raised, 2 over; the pressure raised to, else 0.
-pub(crate) fn relax(
+#[inline]
+pub fn relax(
     problem: Problem,
     field: &mut [u32],
     at: usize,
@@ -138,9 +148,7 @@ pub(crate) fn relax(
     // and it, `result` and `place` are lent by `&mut`. Any `at` will do.
     unsafe {
         film_relax(
-            problem.rows,
-            problem.columns,
-            problem.ceiling,
+            problem.head,
             problem.weights.as_ptr(),
             problem.weights.len(),
             problem.diagonals.as_ptr(),
@@ -161,7 +169,8 @@ pub(crate) fn relax(
 }
 
 /// The slack of cell `at`.
-pub(crate) fn slack(
+#[inline]
+pub fn slack(
     problem: Problem,
     field: &[u32],
     at: usize,
@@ -172,9 +181,7 @@ pub(crate) fn slack(
     // lent by `&mut`. Any `at` will do.
     unsafe {
         film_slack(
-            problem.rows,
-            problem.columns,
-            problem.ceiling,
+            problem.head,
             problem.weights.as_ptr(),
             problem.weights.len(),
             problem.diagonals.as_ptr(),
@@ -195,14 +202,13 @@ pub(crate) fn slack(
 }
 
 /// The film's margin.
-pub(crate) fn margin(problem: Problem, margin: &mut u32, place: &mut usize) -> u32 {
+#[inline]
+pub fn margin(problem: Problem, margin: &mut u32, place: &mut usize) -> u32 {
     // SAFETY: the film's slices are read within their lengths; `margin` and `place` are lent by
     // `&mut`.
     unsafe {
         film_margin(
-            problem.rows,
-            problem.columns,
-            problem.ceiling,
+            problem.head,
             problem.weights.as_ptr(),
             problem.weights.len(),
             problem.diagonals.as_ptr(),
@@ -220,7 +226,8 @@ pub(crate) fn margin(problem: Problem, margin: &mut u32, place: &mut usize) -> u
 }
 
 /// Proposes pressures for a line. `result`: 1 accepted, 0 rejected; the number of cells raised.
-pub(crate) fn propose(
+#[inline]
+pub fn propose(
     problem: Problem,
     field: &mut [u32],
     line: u32,
@@ -232,9 +239,7 @@ pub(crate) fn propose(
     // within its own, and it, `result` and `place` are lent by `&mut`. Any `line` will do.
     unsafe {
         film_propose(
-            problem.rows,
-            problem.columns,
-            problem.ceiling,
+            problem.head,
             problem.weights.as_ptr(),
             problem.weights.len(),
             problem.diagonals.as_ptr(),
@@ -257,7 +262,8 @@ pub(crate) fn propose(
 }
 
 /// Writes the program's own proposal for a line.
-pub(crate) fn estimate(
+#[inline]
+pub fn estimate(
     problem: Problem,
     field: &[u32],
     line: u32,
@@ -268,9 +274,7 @@ pub(crate) fn estimate(
     // within its own, and it and `place` are lent by `&mut`. Any `line` will do.
     unsafe {
         film_estimate(
-            problem.rows,
-            problem.columns,
-            problem.ceiling,
+            problem.head,
             problem.weights.as_ptr(),
             problem.weights.len(),
             problem.diagonals.as_ptr(),
@@ -292,7 +296,8 @@ pub(crate) fn estimate(
 }
 
 /// Runs relaxations by an ordering, with proposals first if they are on.
-pub(crate) fn run(
+#[inline]
+pub fn run(
     problem: Problem,
     field: &mut [u32],
     budget: u32,
@@ -305,9 +310,7 @@ pub(crate) fn run(
     // Any budget and order will do.
     unsafe {
         film_run(
-            problem.rows,
-            problem.columns,
-            problem.ceiling,
+            problem.head,
             problem.weights.as_ptr(),
             problem.weights.len(),
             problem.diagonals.as_ptr(),
@@ -331,7 +334,8 @@ pub(crate) fn run(
 }
 
 /// Writes the report of a file into `out`, of at least 33,288 bytes, and its length.
-pub(crate) fn report(file: &[u8], out: &mut [u8], length: &mut usize, place: &mut usize) -> u32 {
+#[inline]
+pub fn report(file: &[u8], out: &mut [u8], length: &mut usize, place: &mut usize) -> u32 {
     // SAFETY: `file` is read within its length; `out` is written within its own, and it, `length`
     // and `place` are lent by `&mut`.
     unsafe {
@@ -346,7 +350,7 @@ pub(crate) fn report(file: &[u8], out: &mut [u8], length: &mut usize, place: &mu
     }
 }
 
-// As in include/film.h: a slice is a pointer and a length.
+// As in include/film.h: a slice is a pointer and a length. Declared here and nowhere else.
 extern "C" {
     fn film_read(
         file: *const u8,
@@ -355,15 +359,13 @@ extern "C" {
         weights_len: usize,
         thicknesses: *mut u8,
         thicknesses_len: usize,
-        head: *mut [u32; 3],
+        head: *mut Head,
         wedge: *mut i32,
         place: *mut usize,
     ) -> u32;
 
     fn film_write(
-        rows: u32,
-        columns: u32,
-        ceiling: u32,
+        head: *const Head,
         weights: *const u16,
         weights_len: usize,
         thicknesses: *const u8,
@@ -375,9 +377,7 @@ extern "C" {
     ) -> u32;
 
     fn film_form(
-        rows: u32,
-        columns: u32,
-        ceiling: u32,
+        head: *const Head,
         weights: *const u16,
         weights_len: usize,
         thicknesses: *const u8,
@@ -395,9 +395,7 @@ extern "C" {
     ) -> u32;
 
     fn film_relax(
-        rows: u32,
-        columns: u32,
-        ceiling: u32,
+        head: *const Head,
         weights: *const u16,
         weights_len: usize,
         diagonals: *const u32,
@@ -416,9 +414,7 @@ extern "C" {
     ) -> u32;
 
     fn film_slack(
-        rows: u32,
-        columns: u32,
-        ceiling: u32,
+        head: *const Head,
         weights: *const u16,
         weights_len: usize,
         diagonals: *const u32,
@@ -437,9 +433,7 @@ extern "C" {
     ) -> u32;
 
     fn film_margin(
-        rows: u32,
-        columns: u32,
-        ceiling: u32,
+        head: *const Head,
         weights: *const u16,
         weights_len: usize,
         diagonals: *const u32,
@@ -455,9 +449,7 @@ extern "C" {
     ) -> u32;
 
     fn film_propose(
-        rows: u32,
-        columns: u32,
-        ceiling: u32,
+        head: *const Head,
         weights: *const u16,
         weights_len: usize,
         diagonals: *const u32,
@@ -478,9 +470,7 @@ extern "C" {
     ) -> u32;
 
     fn film_estimate(
-        rows: u32,
-        columns: u32,
-        ceiling: u32,
+        head: *const Head,
         weights: *const u16,
         weights_len: usize,
         diagonals: *const u32,
@@ -500,9 +490,7 @@ extern "C" {
     ) -> u32;
 
     fn film_run(
-        rows: u32,
-        columns: u32,
-        ceiling: u32,
+        head: *const Head,
         weights: *const u16,
         weights_len: usize,
         diagonals: *const u32,

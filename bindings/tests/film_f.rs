@@ -1,12 +1,17 @@
 //! Film F, the specification's worked example, and its edges.
 
-use film::{report, Counts, Field, Film, Order, Outcome, Proposed, Refusal, Relaxed};
+use film::{report, Counts, Field, Film, Head, Order, Outcome, Proposed, Refusal, Relaxed};
 
 const BUDGET: u32 = 4_000_000;
 
 fn film_f(ceiling: u32, wedge: i32) -> Film {
+    let head = Head {
+        rows: 1,
+        columns: 2,
+        ceiling,
+    };
     let thicknesses = vec![1, 1, 1, 1, 3, 2, 1, 1, 1, 1, 1, 1];
-    Film::from_parts(1, 2, ceiling, vec![1, 1], thicknesses, wedge).expect("film F is accepted")
+    Film::from_parts(head, vec![1, 1], thicknesses, wedge).expect("film F is accepted")
 }
 
 fn counts(visits: u32, raises: u32, accepted: u32) -> Counts {

@@ -1,6 +1,6 @@
 //! Refusals: their numbers, places and words, and that a refused call changes nothing.
 
-use film::{Field, Film, Order, Refusal};
+use film::{Field, Film, Head, Order, Refusal};
 
 const THICKNESSES: [u8; 12] = [1, 1, 1, 1, 3, 2, 1, 1, 1, 1, 1, 1];
 
@@ -15,8 +15,12 @@ fn from_parts(
     weights: &[u16],
     wedge: i32,
 ) -> Result<Film, Refusal> {
-    let (weights, thicknesses) = (weights.to_vec(), THICKNESSES.to_vec());
-    Film::from_parts(rows, columns, ceiling, weights, thicknesses, wedge)
+    let head = Head {
+        rows,
+        columns,
+        ceiling,
+    };
+    Film::from_parts(head, weights.to_vec(), THICKNESSES.to_vec(), wedge)
 }
 
 fn file_f() -> Vec<u8> {

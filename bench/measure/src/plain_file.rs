@@ -1,9 +1,10 @@
 //! Reading a film file, forming coefficients and printing the report, in plain Rust: what Film's
 //! calls do, with the same tests, as one would write it without proofs.
 
-use crate::calls::{Lent, Refused};
+use crate::calls::{head, Lent, Refused};
 use crate::plain;
 use crate::problem::System;
+use film::Head;
 use film_oracle::film::Film;
 use std::fmt::Write;
 
@@ -78,13 +79,13 @@ impl<'a> Numbers<'a> {
     }
 }
 
-/// Reads a file into the lent buffers; hands back rows, columns, ceiling and wedge.
+/// Reads a file into the lent buffers; hands back head and wedge.
 #[inline(never)]
 pub fn read(
     file: &[u8],
     weights: &mut [u16],
     thicknesses: &mut [u8],
-) -> Result<([u32; 3], i32), Refused> {
+) -> Result<(Head, i32), Refused> {
     if weights.len() != 1_024 || thicknesses.len() != 1_156 {
         return Err((10, 0));
     }
@@ -118,7 +119,7 @@ pub fn read(
     .not_dominant()?;
     weights[..cells].copy_from_slice(&found[..cells]);
     thicknesses[..ringed].copy_from_slice(gauged);
-    Ok(([rows as u32, columns as u32, ceiling], wedge))
+    Ok((head(rows, columns, ceiling), wedge))
 }
 
 /// One field: header, tag, length, presence of the body.
@@ -213,8 +214,8 @@ fn fill(film: Numbers, lent: &mut Lent) {
 #[inline(never)]
 pub fn report(file: &[u8], text: &mut String) -> Result<(), Refused> {
     let (mut weights, mut thicknesses) = ([0; 1_024], [0; 1_156]);
-    let ([rows, columns, ceiling], wedge) = read(file, &mut weights, &mut thicknesses)?;
-    let (rows, columns) = (rows as usize, columns as usize);
+    let (head, wedge) = read(file, &mut weights, &mut thicknesses)?;
+    let (rows, columns, ceiling) = (head.rows as usize, head.columns as usize, head.ceiling);
     let cells = rows * columns;
     let film = Numbers {
         rows,

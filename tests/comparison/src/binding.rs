@@ -2,10 +2,10 @@
 
 use crate::fields;
 use crate::lent::Differences;
-use crate::numbers::{Problem, Sides};
+use crate::numbers::{head, Problem, Sides};
 use crate::random::Random;
 use crate::trial::{Compared, Trial};
-use film::{Counts, Field, Order, Outcome, Proposed, Relaxed};
+use film::{Counts, Field, Head, Order, Outcome, Proposed, Relaxed};
 use film_oracle::film::Film;
 use film_oracle::run::Answer;
 use film_oracle::{calls, Refusal, Whole};
@@ -43,12 +43,11 @@ pub fn compare_report(trial: &mut Trial, file: &[u8]) -> Compared {
     trial.ended(differences)
 }
 
-type Numbers = ([u32; 3], Vec<u16>, Vec<u8>, i32);
+type Numbers = (Head, Vec<u16>, Vec<u8>, i32);
 
 fn numbers(film: &Film) -> Numbers {
-    let head = [film.rows as u32, film.columns as u32, film.ceiling];
     (
-        head,
+        head(film.rows, film.columns, film.ceiling),
         film.weights.clone(),
         film.thickness.clone(),
         film.wedge,
@@ -56,7 +55,11 @@ fn numbers(film: &Film) -> Numbers {
 }
 
 fn read_numbers(film: &film::Film) -> Numbers {
-    let head = [film.rows(), film.columns(), film.ceiling()];
+    let head = Head {
+        rows: film.rows(),
+        columns: film.columns(),
+        ceiling: film.ceiling(),
+    };
     let (weights, thicknesses) = (film.weights().to_vec(), film.thicknesses().to_vec());
     (head, weights, thicknesses, film.wedge())
 }
@@ -126,9 +129,9 @@ impl Pair {
 
     /// An estimate and a proposal, for a line that may be outside.
     fn line(&mut self, random: &mut Random) {
-        let line = random.below(self.sides.plain.rows as usize + 2);
+        let line = random.below(self.sides.plain.head.rows as usize + 2);
         let mut field = Field::from(self.field.clone());
-        let mut estimate = vec![0; self.sides.plain.columns as usize];
+        let mut estimate = vec![0; self.sides.plain.head.columns as usize];
         let oracle = self.sides.oracle();
         let wanted = calls::estimate(oracle, &self.field, line as Whole, &mut estimate);
         let told = self.package.estimate(&field, line as u32);

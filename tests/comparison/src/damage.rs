@@ -36,7 +36,7 @@ fn damage_values(random: &mut Random, film: &mut Film) {
     for _ in 0..1 + random.below(2) {
         damage_value(random, &mut gauge);
     }
-    film.ceiling = gauge.ceiling;
+    film.ceiling = gauge.head.ceiling;
     film.weights = gauge.weights;
     film.thickness = gauge.thicknesses;
     film.wedge = gauge.wedge;
@@ -80,9 +80,9 @@ pub fn gauge(random: &mut Random, film: &Film) -> Gauge {
     let mut gauge = Gauge::from(film);
     for _ in 0..1 + random.below(3) {
         match random.below(10) {
-            0 => gauge.rows = side(random, gauge.rows),
-            1 => gauge.columns = side(random, gauge.columns),
-            2 => std::mem::swap(&mut gauge.rows, &mut gauge.columns),
+            0 => gauge.head.rows = side(random, gauge.head.rows),
+            1 => gauge.head.columns = side(random, gauge.head.columns),
+            2 => std::mem::swap(&mut gauge.head.rows, &mut gauge.head.columns),
             3 => resize(random, &mut gauge.weights, 1),
             4 => resize(random, &mut gauge.thicknesses, 1),
             _ => damage_value(random, &mut gauge),
@@ -94,7 +94,7 @@ pub fn gauge(random: &mut Random, film: &Film) -> Gauge {
 /// Damages ceiling, weights, thicknesses or wedge.
 fn damage_value(random: &mut Random, gauge: &mut Gauge) {
     match random.below(6) {
-        0 => gauge.ceiling = bad_ceiling(random),
+        0 => gauge.head.ceiling = bad_ceiling(random),
         1 => put(random, &mut gauge.weights, |_, _| 0),
         2 => put(random, &mut gauge.thicknesses, |random, _| {
             random.pick(&[0, 129, 130, 255])
@@ -165,10 +165,10 @@ pub fn problem(random: &mut Random, problem: &Problem) -> Problem {
 
 fn damage_problem(random: &mut Random, problem: &mut Problem) {
     match random.below(18) {
-        0 => problem.rows = side(random, problem.rows),
-        1 => problem.columns = side(random, problem.columns),
-        2 => std::mem::swap(&mut problem.rows, &mut problem.columns),
-        3 => problem.ceiling = bad_ceiling(random),
+        0 => problem.head.rows = side(random, problem.head.rows),
+        1 => problem.head.columns = side(random, problem.head.columns),
+        2 => std::mem::swap(&mut problem.head.rows, &mut problem.head.columns),
+        3 => problem.head.ceiling = bad_ceiling(random),
         4 => resize(random, &mut problem.weights, 1),
         5 => resize(random, &mut problem.diagonals, 1),
         6 => resize(random, &mut problem.rights, 0),

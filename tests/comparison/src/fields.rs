@@ -10,9 +10,9 @@ use film_oracle::run::{run, Answer, Ordering};
 pub fn start(random: &mut Random, sides: &Sides, known: Option<&[u32]>) -> Vec<u32> {
     match known {
         Some(known) if random.chance(80) => {
-            let ceiling = sides.plain.ceiling;
+            let ceiling = sides.plain.head.ceiling;
             let mut field: Vec<u32> = known.iter().map(|&p| p.min(ceiling)).collect();
-            lower_line(random, &mut field, sides.plain.columns as usize);
+            lower_line(random, &mut field, sides.plain.head.columns as usize);
             field
         }
         _ => any_start(random, sides),
@@ -29,7 +29,7 @@ fn lower_line(random: &mut Random, field: &mut [u32], columns: usize) {
 }
 
 fn any_start(random: &mut Random, sides: &Sides) -> Vec<u32> {
-    let ceiling = sides.plain.ceiling;
+    let ceiling = sides.plain.head.ceiling;
     let cells = sides.plain.cells();
     let most = random.spread(ceiling.into());
     match random.below(10) {
@@ -53,12 +53,12 @@ fn any_start(random: &mut Random, sides: &Sides) -> Vec<u32> {
 fn near_least(random: &mut Random, sides: &Sides) -> Vec<u32> {
     let mut field = raised(sides, &vec![0; sides.plain.cells()]);
     if random.chance(40) {
-        lower_line(random, &mut field, sides.plain.columns as usize);
+        lower_line(random, &mut field, sides.plain.head.columns as usize);
     }
     for _ in 0..random.below(3) {
         nudge(random, &mut field);
     }
-    let ceiling = sides.plain.ceiling;
+    let ceiling = sides.plain.head.ceiling;
     field
         .iter()
         .map(|&pressure| pressure.min(ceiling))
@@ -95,7 +95,7 @@ impl Sweep {
 pub fn visits(sides: &Sides, field: &mut [u32], sweep: Sweep) -> Option<u32> {
     let outcome = run(
         sides.system(),
-        sides.plain.ceiling,
+        sides.plain.head.ceiling,
         &sides.plain.weights,
         field,
         sweep.budget,
@@ -129,7 +129,7 @@ fn nudge(random: &mut Random, pressures: &mut [u32]) {
 
 /// A proposal for a line of an accepted film, on a field that it accepts.
 pub fn proposal(random: &mut Random, sides: &Sides, field: &[u32], line: usize) -> Vec<u32> {
-    let columns = sides.plain.columns as usize;
+    let columns = sides.plain.head.columns as usize;
     let row = (line - 1) * columns..line * columns;
     let mut proposal = match random.below(12) {
         0..=2 => estimate(sides, field, line),
@@ -155,12 +155,12 @@ fn estimate(sides: &Sides, field: &[u32], line: usize) -> Vec<u32> {
 /// The line of the field that relaxations lead to, lowered evenly by as little as makes it accepted,
 /// or by one step less.
 fn highest_accepted(random: &mut Random, sides: &Sides, field: &[u32], line: usize) -> Vec<u32> {
-    let columns = sides.plain.columns as usize;
+    let columns = sides.plain.head.columns as usize;
     let above = &raised(sides, field)[(line - 1) * columns..line * columns];
     let lowered = |by: u32| -> Vec<u32> { above.iter().map(|&p| p.saturating_sub(by)).collect() };
     let accepted = |by: u32| {
         let mut field = field.to_vec();
-        let ceiling = sides.plain.ceiling;
+        let ceiling = sides.plain.head.ceiling;
         let answer = line::propose(sides.system(), ceiling, &mut field, line, &lowered(by));
         answer != Proposed::Rejected
     };
@@ -174,7 +174,7 @@ fn highest_accepted(random: &mut Random, sides: &Sides, field: &[u32], line: usi
 
 /// A rise of one cell alone, to the greatest pressure whose slack is at most 0, or one step more.
 fn one_cell(random: &mut Random, sides: &Sides, field: &[u32], line: usize) -> Vec<u32> {
-    let columns = sides.plain.columns as usize;
+    let columns = sides.plain.head.columns as usize;
     let mut proposal = vec![0; columns];
     let column = random.below(columns);
     let cell = (line - 1) * columns + column;
@@ -187,7 +187,7 @@ fn one_cell(random: &mut Random, sides: &Sides, field: &[u32], line: usize) -> V
 
 /// What raises nothing, or goes beyond the ceiling.
 fn extreme(random: &mut Random, sides: &Sides, row: &[u32]) -> Vec<u32> {
-    let ceiling = sides.plain.ceiling;
+    let ceiling = sides.plain.head.ceiling;
     let highest = random.pick(&[0, ceiling, ceiling + 1, u32::MAX]);
     let mut proposal = row.to_vec();
     let at = random.below(row.len());

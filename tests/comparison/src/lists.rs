@@ -88,7 +88,10 @@ fn read(trial: &mut Trial, file: Vec<u8>) -> Compared {
 
 /// Writes the film, and forms its coefficients, in slices of the right length for its shape.
 fn gauged(trial: &mut Trial, gauge: Gauge) -> Compared {
-    let (rows, columns) = (gauge.rows.min(99) as usize, gauge.columns.min(99) as usize);
+    let (rows, columns) = (
+        gauge.head.rows.min(99) as usize,
+        gauge.head.columns.min(99) as usize,
+    );
     let length = file_length(rows, columns);
     trial.step(Step::Write(gauge.clone(), length))?;
     trial.step(Step::Form(gauge, [rows * columns; 4]))
@@ -165,11 +168,11 @@ fn good_call(random: &mut Random, trial: &Trial) -> Step {
         Some(short) if random.chance(70) => short,
         _ => any,
     };
-    let line = 1 + cell / problem.columns as usize;
+    let line = 1 + cell / problem.head.columns as usize;
     match random.below(12) {
         0 | 1 => Step::Relax(cell),
         2 => Step::Slack(cell),
-        3 | 4 => Step::Estimate(line as u32, problem.columns as usize),
+        3 | 4 => Step::Estimate(line as u32, problem.head.columns as usize),
         5..=8 => {
             let proposal = fields::proposal(random, trial.sides(), trial.field(), line);
             Step::Propose(line as u32, proposal)
@@ -210,7 +213,7 @@ fn good_run(random: &mut Random, trial: &Trial) -> Step {
 /// A call with a bad line, cell, ordering or length.
 fn refused_call(random: &mut Random, trial: &mut Trial) -> Compared {
     let problem = &trial.sides().plain;
-    let (rows, columns) = (problem.rows, problem.columns as usize);
+    let (rows, columns) = (problem.head.rows, problem.head.columns as usize);
     let any = random.any_u32();
     let line = random.pick(&[0, rows + 1, u32::MAX, any, 1]);
     let cell = random.pick(&[
@@ -252,8 +255,8 @@ fn damaged_calls(random: &mut Random, trial: &mut Trial, problem: &Problem) -> C
 /// A call that fits the film, or that has a fault of its own.
 fn any_call(random: &mut Random, problem: &Problem) -> Step {
     let cell = random.below(problem.cells() + 1);
-    let line = random.below(problem.rows as usize + 2) as u32;
-    let columns = problem.columns as usize;
+    let line = random.below(problem.head.rows as usize + 2) as u32;
+    let columns = problem.head.columns as usize;
     match random.below(6) {
         0 => Step::Relax(cell),
         1 => Step::Slack(cell),
@@ -270,7 +273,7 @@ fn any_call(random: &mut Random, problem: &Problem) -> Step {
 
 /// A field with a pressure above the ceiling, or of the wrong length; any call after it.
 fn bad_field(random: &mut Random, trial: &mut Trial) -> Compared {
-    let ceiling = trial.sides().plain.ceiling;
+    let ceiling = trial.sides().plain.head.ceiling;
     let mut field = trial.field().to_vec();
     if random.chance(70) {
         for _ in 0..1 + random.below(2) {

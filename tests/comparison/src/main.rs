@@ -13,11 +13,6 @@ mod random;
 mod tally;
 mod trial;
 
-// The binding's own declarations and calls, which it keeps to itself: so what is compared is what
-// its users get, with inputs too that its types leave out.
-#[path = "../../../bindings/src/raw.rs"]
-mod raw;
-
 use random::Random;
 use std::io::IsTerminal;
 use std::panic::{catch_unwind, AssertUnwindSafe};

@@ -1,7 +1,7 @@
 //! The inputs of calls: a film as it was gauged, and as coefficients.
 
 use crate::lent::Lent;
-use crate::raw;
+use film::{raw, Head};
 use film_oracle::calls::Problem as OracleProblem;
 use film_oracle::coefficients::{form, System};
 use film_oracle::film::{Film, Numbers as OracleNumbers};
@@ -10,9 +10,7 @@ use film_oracle::Whole;
 /// The numbers of a film file, or what a caller gives for them.
 #[derive(Clone, Debug)]
 pub struct Gauge {
-    pub rows: u32,
-    pub columns: u32,
-    pub ceiling: u32,
+    pub head: Head,
     pub weights: Vec<u16>,
     pub thicknesses: Vec<u8>,
     pub wedge: i32,
@@ -21,9 +19,7 @@ pub struct Gauge {
 impl From<&Film> for Gauge {
     fn from(film: &Film) -> Gauge {
         Gauge {
-            rows: film.rows as u32,
-            columns: film.columns as u32,
-            ceiling: film.ceiling,
+            head: head(film.rows, film.columns, film.ceiling),
             weights: film.weights.clone(),
             thicknesses: film.thickness.clone(),
             wedge: film.wedge,
@@ -35,9 +31,9 @@ impl Gauge {
     /// As the oracle takes them.
     pub fn oracle(&self) -> OracleNumbers<'_> {
         OracleNumbers {
-            rows: self.rows.into(),
-            columns: self.columns.into(),
-            ceiling: self.ceiling,
+            rows: self.head.rows.into(),
+            columns: self.head.columns.into(),
+            ceiling: self.head.ceiling,
             weights: &self.weights,
             thickness: &self.thicknesses,
             wedge: self.wedge,
@@ -48,9 +44,7 @@ impl Gauge {
 /// A film as coefficients, or what a caller gives for them.
 #[derive(Clone, Debug)]
 pub struct Problem {
-    pub rows: u32,
-    pub columns: u32,
-    pub ceiling: u32,
+    pub head: Head,
     pub weights: Vec<u16>,
     pub diagonals: Vec<u32>,
     pub rights: Vec<u32>,
@@ -62,9 +56,7 @@ impl From<&Film> for Problem {
     fn from(film: &Film) -> Problem {
         let formed = form(film);
         Problem {
-            rows: film.rows as u32,
-            columns: film.columns as u32,
-            ceiling: film.ceiling,
+            head: head(film.rows, film.columns, film.ceiling),
             weights: film.weights.clone(),
             diagonals: formed.diagonals.iter().map(|&d| d as u32).collect(),
             rights: formed.rights.iter().map(|&link| link as u32).collect(),
@@ -77,7 +69,7 @@ impl From<&Film> for Problem {
 impl Problem {
     /// N, where the shape is a good one.
     pub fn cells(&self) -> usize {
-        self.rows as usize * self.columns as usize
+        self.head.rows as usize * self.head.columns as usize
     }
 }
 
@@ -94,6 +86,7 @@ pub struct Sides {
 }
 
 pub struct LentProblem {
+    pub head: Head,
     pub weights: Lent<u16>,
     pub diagonals: Lent<u32>,
     pub rights: Lent<u32>,
@@ -109,6 +102,7 @@ impl Sides {
             ups: wide(&plain.ups),
             sources: wide(&plain.sources),
             lent: LentProblem {
+                head: plain.head,
                 weights: Lent::new(&plain.weights, 1),
                 diagonals: Lent::new(&plain.diagonals, 77),
                 rights: Lent::new(&plain.rights, 77),
@@ -121,9 +115,9 @@ impl Sides {
 
     pub fn oracle(&self) -> OracleProblem<'_> {
         OracleProblem {
-            rows: self.plain.rows.into(),
-            columns: self.plain.columns.into(),
-            ceiling: self.plain.ceiling.into(),
+            rows: self.plain.head.rows.into(),
+            columns: self.plain.head.columns.into(),
+            ceiling: self.plain.head.ceiling.into(),
             diagonals: &self.diagonals,
             rights: &self.rights,
             ups: &self.ups,
@@ -134,9 +128,7 @@ impl Sides {
 
     pub fn library(&self) -> raw::Problem<'_> {
         raw::Problem {
-            rows: self.plain.rows,
-            columns: self.plain.columns,
-            ceiling: self.plain.ceiling,
+            head: &self.lent.head,
             weights: self.lent.weights.slice(),
             diagonals: self.lent.diagonals.slice(),
             rights: self.lent.rights.slice(),
@@ -148,13 +140,22 @@ impl Sides {
     /// The coefficients of a good shape, for the oracle's parts below its calls.
     pub fn system(&self) -> System<'_> {
         System {
-            rows: self.plain.rows as usize,
-            columns: self.plain.columns as usize,
+            rows: self.plain.head.rows as usize,
+            columns: self.plain.head.columns as usize,
             diagonals: &self.diagonals,
             rights: &self.rights,
             ups: &self.ups,
             sources: &self.sources,
         }
+    }
+}
+
+/// The library's head, of the oracle's numbers.
+pub fn head(rows: usize, columns: usize, ceiling: u32) -> Head {
+    Head {
+        rows: rows as u32,
+        columns: columns as u32,
+        ceiling,
     }
 }
 

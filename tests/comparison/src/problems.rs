@@ -1,7 +1,7 @@
 //! Random films as coefficients, from no film file: all that the limits allow.
 
 use crate::films::{any_ceiling, shape};
-use crate::numbers::Problem;
+use crate::numbers::{head, Problem};
 use crate::random::Random;
 
 pub const HIGHEST_LINK: i64 = 1 << 24;
@@ -15,9 +15,7 @@ pub fn accepted(random: &mut Random) -> Problem {
     let (rows, columns) = shape(random);
     let cells = rows * columns;
     let mut problem = Problem {
-        rows: rows as u32,
-        columns: columns as u32,
-        ceiling: any_ceiling(random),
+        head: head(rows, columns, any_ceiling(random)),
         weights: weights(random, cells),
         diagonals: Vec::new(),
         rights: links(random, cells),
@@ -36,7 +34,7 @@ pub fn exact(random: &mut Random) -> (Problem, Vec<u32>) {
     let mut problem = accepted(random);
     let largest = *problem.diagonals.iter().max().expect("a film has cells");
     let most = (HIGHEST_SOURCE / i64::from(largest)).min(HIGHEST_ESTIMATE);
-    let most = random.pick(&[most, most.min(problem.ceiling.into()), most.min(1_000)]);
+    let most = random.pick(&[most, most.min(problem.head.ceiling.into()), most.min(1_000)]);
     let even = random.chance(20);
     let field: Vec<u32> = (0..problem.cells())
         .map(|_| if even { most } else { random.within(0, most) } as u32)
@@ -81,7 +79,7 @@ fn links(random: &mut Random, cells: usize) -> Vec<u32> {
 
 /// No link leaves the grid.
 fn clear_ends(problem: &mut Problem) {
-    let columns = problem.columns as usize;
+    let columns = problem.head.columns as usize;
     let cells = problem.cells();
     for cell in (columns - 1..cells).step_by(columns) {
         problem.rights[cell] = 0;
@@ -121,7 +119,7 @@ fn least_diagonals(problem: &Problem) -> Vec<i64> {
 
 /// The sum of link × neighbour's number, for weights or pressures.
 fn pull<T: Copy + Into<i64>>(problem: &Problem, numbers: &[T], cell: usize) -> i64 {
-    let columns = problem.columns as usize;
+    let columns = problem.head.columns as usize;
     let term = |link: u32, other: usize| {
         let number = numbers.get(other).map_or(0, |&number| number.into());
         i64::from(link) * number
@@ -141,7 +139,7 @@ fn pull<T: Copy + Into<i64>>(problem: &Problem, numbers: &[T], cell: usize) -> i
 /// Sources of any size, or such that the pressures lie below the ceiling.
 fn sources(random: &mut Random, problem: &Problem) -> Vec<i64> {
     let law = random.below(5);
-    let target = random.spread(problem.ceiling.into());
+    let target = random.spread(problem.head.ceiling.into());
     let mut source = |diagonal: u32| match law {
         0 => random.signed(HIGHEST_SOURCE),
         1 => random.pick(&[-HIGHEST_SOURCE, 0, HIGHEST_SOURCE]),

@@ -3,9 +3,10 @@
 
 use crate::fields::Sweep;
 use crate::lent::{Differences, Lent};
-use crate::numbers::{Gauge, Problem, Sides};
-use crate::raw::{self, Formed, Ran};
+use crate::numbers::{head, Gauge, Problem, Sides};
 use crate::tally::{answer, Tally};
+use film::raw::{self, Formed, Ran};
+use film::Head;
 use film_oracle::film::{read_into, write_into};
 use film_oracle::line::Proposed;
 use film_oracle::relax::Relaxed;
@@ -16,6 +17,11 @@ use std::fmt;
 
 /// What results hold before a call, so that one which the call should leave alone shows.
 const UNSET: u32 = 0xdead_beef;
+const UNSET_HEAD: Head = Head {
+    rows: UNSET,
+    columns: UNSET,
+    ceiling: UNSET,
+};
 const UNSET_SLACK: i64 = -0x5ead_beef_5ead_beef;
 const UNSET_PLACE: usize = 0x0bad_cafe_0bad_cafe;
 
@@ -85,9 +91,7 @@ pub type Compared = Result<(), Box<Disagreement>>;
 impl<'a> Trial<'a> {
     pub fn new(file: Vec<u8>, tally: &'a mut Tally) -> Trial<'a> {
         let none = Problem {
-            rows: 0,
-            columns: 0,
-            ceiling: 0,
+            head: Head::default(),
             weights: Vec::new(),
             diagonals: Vec::new(),
             rights: Vec::new(),
@@ -158,6 +162,7 @@ impl<'a> Trial<'a> {
         }
         differences.lent("field", &self.field, &self.lent);
         let (plain, lent) = (&self.sides.plain, &self.sides.lent);
+        differences.same("head", plain.head, lent.head);
         differences.lent("weights", &plain.weights, &lent.weights);
         differences.lent("diagonals", &plain.diagonals, &lent.diagonals);
         differences.lent("rights", &plain.rights, &lent.rights);
@@ -322,11 +327,11 @@ fn read(
     let mut lent_thicknesses = Lent::new(&thicknesses, 0xef);
     let lent_file = Lent::new(file, 1);
     let wanted = read_into(file, &mut weights, &mut thicknesses);
-    let (head, wedge) = match wanted {
-        Ok((rows, columns, ceiling, wedge)) => ([rows as u32, columns as u32, ceiling], wedge),
-        Err(_) => ([UNSET; 3], UNSET as i32),
+    let (mut told, mut told_wedge, mut place) = (UNSET_HEAD, UNSET as i32, UNSET_PLACE);
+    let (wanted_head, wedge) = match wanted {
+        Ok((rows, columns, ceiling, wedge)) => (head(rows, columns, ceiling), wedge),
+        Err(_) => (told, told_wedge),
     };
-    let (mut told, mut told_wedge, mut place) = ([UNSET; 3], UNSET as i32, UNSET_PLACE);
     let number = raw::read(
         lent_file.slice(),
         lent_weights.slice_mut(),
@@ -336,7 +341,7 @@ fn read(
         &mut place,
     );
     refusals(&wanted, number, place, differences);
-    differences.same("head", head, told);
+    differences.same("head", wanted_head, told);
     differences.same("wedge", wedge, told_wedge);
     differences.lent("weights", &weights, &lent_weights);
     differences.lent("thicknesses", &thicknesses, &lent_thicknesses);
@@ -350,16 +355,16 @@ fn with_gauge(
     differences: &mut Differences,
     call: impl FnOnce(raw::Gauge) -> u32,
 ) -> u32 {
+    let head = gauge.head;
     let weights = Lent::new(&gauge.weights, 1);
     let thicknesses = Lent::new(&gauge.thicknesses, 1);
     let number = call(raw::Gauge {
-        rows: gauge.rows,
-        columns: gauge.columns,
-        ceiling: gauge.ceiling,
+        head: &head,
         weights: weights.slice(),
         thicknesses: thicknesses.slice(),
         wedge: gauge.wedge,
     });
+    differences.same("head", gauge.head, head);
     differences.lent("weights", &gauge.weights, &weights);
     differences.lent("thicknesses", &gauge.thicknesses, &thicknesses);
     number

