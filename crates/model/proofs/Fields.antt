@@ -4,17 +4,17 @@
 --   A walk that passes means that the bytes are those fields, with the bodies that stand there (`walked`).
 --   A walk looks at no byte beyond the fields that it tests (`walk-same`).
 use mathlib.Core.Path.{_≡_, refl, sym, ap, ap₂, _∙_, subst}
-use mathlib.Core.Bool.{Bool, not}
+use mathlib.Core.Bool.{not}
 use mathlib.Core.List.{List, [], _∷_, _++_, append-assoc, append-nil}
-use Prim.Native.Nat.{ℕ, zero, suc, _+_, _*_, _/_, _%_, _≤_, _<_}
+use Prim.Native.Nat.{ℕ, zero, suc, _+_, _/_, _%_, _≤_, _<_}
 use native.Mathlib.Nat.{le-refl, zero-add, add-zero, suc-add}
 use native.Mathlib.Omega.{arith}
 use borrow.Author.Tests.{le-ltb, eq-eqb, ltb-false, eqb-true, not-false}
 use lib.Dec.{ltb, eqb}
-use lib.ListN.{length, getD, length-append, List·getD-append}
+use lib.ListN.{length, length-append, List·getD-append}
 use lib.Seq.{getD-append-add}
 use Rattle.model.specs.Lists.{tabulate}
-use Rattle.model.specs.Refusals.{Check, pass, fail, _orElse_, failIf}
+use Rattle.model.specs.Refusals.{pass, _orElse_, failIf}
 use Rattle.model.specs.Bytes.{byteAt, wordAt}
 use Rattle.model.specs.Fields.{Field, body, behind, endOf, fieldAt, fieldCheck, walk, field, bytesOf}
 use Rattle.model.specs.File.{Bytes}

@@ -13,7 +13,7 @@ use native.Mathlib.Nat.{le-of-suc-le-suc, zero-add, add-zero, add-assoc, suc-add
 use native.Mathlib.Omega.{arith}
 use borrow.Author.Tests.{lt-ltb, le-ltb, ltb-false}
 use lib.Arith.{digits-div, digits-mod}
-use lib.Dec.{ltb, eqb}
+use lib.Dec.{eqb}
 use lib.IntN.{ℤ, pos, negsuc, natAbs}
 use lib.ListN.{length, getD}
 use Rattle.model.specs.Limits.{sideLimit, thicknessLimit, wedgeLimit}
@@ -23,7 +23,7 @@ use Rattle.model.specs.Gauge.{Gauge}
 use Rattle.model.specs.Film.{beside, across, neighbours}
 use Rattle.model.specs.Checks.{outside, shapeCheck, ceilingCheck, notDominant}
 use Rattle.model.specs.Bytes.{byteAt, wordAt, longAt, signedOf, word, long, unsignedOf}
-use Rattle.model.specs.Fields.{Field, body, behind, endOf, fieldAt, walk, strayAt, field, bytesOf}
+use Rattle.model.specs.Fields.{Field, body, endOf, fieldAt, walk, strayAt, field, bytesOf}
 use Rattle.model.specs.File.{cells, ringed, weightsFrom, thicknessesFrom, wedgeCheck, gauged, rowsOffset, columnsOffset, ceilingOffset, weightsOffset, thicknessesOffset, wedgeOffset, endOffset, cellsIn, ringIn, gaugeIn, gaugeDominance, fieldsCheck, fileCheck, accepted, readBy, readFilm, weightBytes, bodies, fileOf, weightsCheck, thicknessesCheck, gaugeCheck, Bytes, Values}
 use Rattle.model.specs.FilmF.{bytesF, FileEdges}
 use Rattle.model.proofs.Integers.{by-order}

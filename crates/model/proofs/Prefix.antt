@@ -18,7 +18,7 @@ use Rattle.model.specs.Refusals.{Check, pass, fail, _orElse_}
 use Rattle.model.specs.Gauge.{Gauge}
 use Rattle.model.specs.Checks.{outside, shapeCheck, ceilingCheck}
 use Rattle.model.specs.Bytes.{byteAt, wordAt, longAt, signedOf}
-use Rattle.model.specs.Fields.{fieldAt, walk, strayAt}
+use Rattle.model.specs.Fields.{fieldAt, strayAt}
 use Rattle.model.specs.File.{cells, ringed, wedgeCheck, shapeField, ceilingField, weightsField, thicknessesField, wedgeField, gauged, rowsOffset, columnsOffset, ceilingOffset, weightsOffset, thicknessesOffset, wedgeOffset, endOffset, cellsIn, ringIn, gaugeIn, gaugeDominance, fieldsCheck, fileCheck, accepted, readBy, readFilm}
 use Rattle.model.specs.Report.{reportBy, reportOf}
 use Rattle.model.proofs.Lists.{tabulate-length, tabulate-at, tabulate-is}

@@ -9,7 +9,7 @@ use lib.Seq.{sets}
 use Rattle.model.specs.Limits.{sideLimit}
 use Rattle.model.specs.Gauge.{Gauge}
 use Rattle.model.specs.Bytes.{long, unsignedOf}
-use Rattle.model.specs.Fields.{Field, field, bytesOf, behind}
+use Rattle.model.specs.Fields.{field, bytesOf}
 use Rattle.model.specs.File.{cells, ringed, endOffset, weightBytes, gauged, bodies, fileOf}
 use Rattle.text.proofs.Writes.{sets-next, sets-whole}
 use Rattle.model.proofs.File.{weights-length}

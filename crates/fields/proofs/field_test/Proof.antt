@@ -1,9 +1,9 @@
 -- `fields::field_test` meets its contract: where another tag stands than the one that should, the field is refused before its length or its
 -- values count (`length-found`); where it stands, they are that tag's (`values-found`).
-use mathlib.Core.Path.{_≡_, sym, ap, _∙_}
+use mathlib.Core.Path.{_≡_, _∙_}
 use native.Mathlib.Omega.{arith}
 use denote.Ref.{now}
-use Rattle.model.specs.Refusals.{pass, checkOf}
+use Rattle.model.specs.Refusals.{checkOf}
 use Rattle.model.specs.Fields.{fieldAt}
 use Rattle.model.proofs.Fields.{header}
 use Rattle.refusals.proofs.Chain.{passed, goes-on, refuses}

@@ -1,5 +1,5 @@
 -- `fields::weight_values` meets its contract: a search (`Search` of crate `refusals`) whose test reads the two bytes of a weight where they stand.
-use mathlib.Core.Path.{_≡_, ap, _∙_}
+use mathlib.Core.Path.{ap, _∙_}
 use Prim.Native.Nat.{_+_, _-_, _*_}
 use native.Mathlib.Omega.{arith}
 use borrow.Author.Needs.{needs}

@@ -10,7 +10,7 @@ use lib.Seq.{length-take-le}
 use mir.Facts.{toZ-ofZ}
 use Rattle.model.specs.Limits.{sideLimit}
 use Rattle.model.specs.Lists.{tabulate}
-use Rattle.model.specs.Refusals.{pass, checkOf}
+use Rattle.model.specs.Refusals.{checkOf}
 use Rattle.model.specs.Gauge.{Gauge}
 use Rattle.model.specs.Bytes.{byteAt, signedOf}
 use Rattle.model.specs.File.{thicknessesOffset, cellsIn, ringIn, gaugeIn, gaugeDominance}
@@ -19,7 +19,7 @@ use Rattle.model.proofs.Lists.{tabulate-length}
 use Rattle.model.proofs.Sides.{cells-low}
 use Rattle.forming.proofs.Cell.{ring-low}
 use Rattle.refusals.proofs.Chain.{passed}
-use Rattle.fields.proofs.Parts.{part-length, part-is}
+use Rattle.fields.proofs.Parts.{part-is}
 use Rattle.file.proofs.Reading.{Whole, fields-whole, decoded, film-loaded, film-refused}
 use Rattle.file.proofs.read_fields.Statement.{statement}
 use Rattle.file.proofs.read_fields.Tie as tie
