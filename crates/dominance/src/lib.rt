@@ -9,7 +9,7 @@ ghost use Rattle.model.specs.Refusals.{pass, checkOf};
 ghost use Rattle.model.specs.Checks.{notDominant, dominanceCheck};
 ghost use Rattle.model.specs.Accepted.{Limited};
 ghost use Rattle.refusals.specs.Parts.{sourceless, dominanceTo};
-use model::Fault;
+use fault::Fault;
 use model::Head;
 use model::Refusal;
 use model::Tested;

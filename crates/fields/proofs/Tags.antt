@@ -1,5 +1,5 @@
 -- What a tag says of its field, and what follows from the tag that stands in a file.
-use mathlib.Core.Path.{_≡_, ap, _∙_}
+use mathlib.Core.Path.{_≡_, refl, sym, ap, _∙_}
 use mathlib.Core.Bool.{Bool, true, false, cond, not}
 use mathlib.Core.List.{List}
 use Prim.Native.Nat.{ℕ, _+_, _≤_}
@@ -7,14 +7,18 @@ use native.Mathlib.Omega.{arith}
 use borrow.Author.Tests.{eqb-true, not-false}
 use lib.Dec.{ltb, eqb}
 use lib.ListN.{length}
-use Rattle.model.specs.Refusals.{Check, pass, _orElse_, failIf}
+use Rattle.model.specs.Refusals.{Check, pass, checkOf, _orElse_, failIf}
 use Rattle.model.specs.Bytes.{byteAt, wordAt}
 use Rattle.model.specs.Fields.{Field, body, behind, fieldAt}
 use Rattle.model.specs.File.{shapeField, ceilingField, weightsField, thicknessesField, wedgeField}
-use Rattle.model.proofs.Checks.{failIf-pass}
+use Rattle.model.specs.declared.Refusal.{Refusal}
+use Rattle.model.specs.declared.Tested.{Tested}
+use Rattle.model.specs.declared.Tested.the-variants.{Fine, Refused}
+use Rattle.model.proofs.Checks.{orElse-parts, failIf-pass}
 use Rattle.model.proofs.Fields.{header}
-use Rattle.refusals.proofs.Chain.{orElse-given}
-use Rattle.fields.specs.Tags.{fieldFor}
+use Rattle.refusals.proofs.Chain.{orElse-given, goes-on, refuses}
+use Rattle.fields.specs.declared.Walked.{Walked}
+use Rattle.fields.specs.Tags.{fieldFor, Tries}
 
 either-low : (b : Bool) (x y : Field) {k : ℕ} → x .size ≤ k → y .size ≤ k → cond b x y .size ≤ k
 either-low true x y h l = h
@@ -26,20 +30,43 @@ size-low tag n t h l =
     (either-low (eqb tag 3) (weightsField n) _ (omega arith) (either-low (eqb tag 4) (thicknessesField t) _ (omega arith)
     (either-low (eqb tag 5) wedgeField _ (omega arith) (omega arith)))))
 
--- a header's length may be taken from the tag that stands there: where that is another one, the field is refused before
-pub length-found : (l : List ℕ) (at tag n t : ℕ)
-    → fieldAt l at tag (fieldFor (byteAt l at) n t .size) ≡ fieldAt l at tag (fieldFor tag n t .size)
-unfolding fieldAt
-length-found l at tag n t =
-    orElse-given (failIf (ltb (length l) (body at)) 1 (length l))
-    (λ _. orElse-given (failIf (not (eqb (byteAt l at) tag)) 2 at)
-    (λ e.
-    let same : byteAt l at ≡ tag = eqb-true _ _ (not-false _ (failIf-pass _ 2 at e)) in
-    ap (λ k. failIf (not (eqb (wordAt l (at + 1)) (fieldFor k n t .size))) 3 at
-    orElse failIf (ltb (length l) (behind at (fieldFor k n t .size))) 1 (length l)) same))
+-- A field from the test h of its header: where that passes, the values are tested and the next field stands behind this one; where it
+-- refuses, nothing else counts.
+module _ (f : Field) {l : List ℕ} {at tag : ℕ} {h : Tested} (found : checkOf h ≡ fieldAt l at tag (f .size)) where
+  pub field-tried : {v : Tested} → h ≡ Fine → checkOf v ≡ f .check l (body at) → Tries f tag l at (record { tested = v; next = behind at (f .size) })
+  field-tried e values = record { finds = goes-on found e values; goes-on = λ p. refl }
 
--- so may the test of the values
-pub values-found : (l : List ℕ) (at tag n t : ℕ) {c : Check} → fieldAt l at tag (fieldFor tag n t .size) ≡ pass
-    → c ≡ fieldFor (byteAt l at) n t .check l (body at) → c ≡ fieldFor tag n t .check l (body at)
-values-found l at tag n t e f =
-    f ∙ ap (λ k. fieldFor k n t .check l (body at)) (header l at tag (fieldFor tag n t .size) e .tag-is)
+  pub field-refused : {r : Refusal} {next : ℕ} → h ≡ Refused r → Tries f tag l at (record { tested = Refused r; next = next })
+  field-refused e = record { finds = refuses found _ e; goes-on = λ p. cc }
+
+-- What is tested may be the field of the byte that stands there: where that is not the tag that should, it is refused before its length or
+-- its values count.
+module _ (l : List ℕ) (at tag n t : ℕ) where
+  abbrev named : ℕ → Field
+  named k = fieldFor k n t
+
+  abbrev headed : ℕ → Check
+  headed k = fieldAt l at tag (named k .size)
+
+  length-found : headed (byteAt l at) ≡ headed tag
+  unfolding fieldAt
+  length-found =
+      orElse-given (failIf (ltb (length l) (body at)) 1 (length l))
+      (λ _. orElse-given (failIf (not (eqb (byteAt l at) tag)) 2 at)
+      (λ e.
+      let same : byteAt l at ≡ tag = eqb-true _ _ (not-false _ (failIf-pass _ 2 at e)) in
+      ap (λ k. failIf (not (eqb (wordAt l (at + 1)) (named k .size))) 3 at
+      orElse failIf (ltb (length l) (behind at (named k .size))) 1 (length l)) same))
+
+  tag-found : headed (byteAt l at) ≡ pass → byteAt l at ≡ tag
+  tag-found e = header l at tag (named (byteAt l at) .size) e .tag-is
+
+  pub tries-found : {w : Walked} → Tries (named (byteAt l at)) tag l at w → Tries (named tag) tag l at w
+  tries-found T =
+      let values = orElse-given (headed (byteAt l at)) (λ e. ap (λ k. named k .check l (body at)) (tag-found e)) in
+      record {
+        finds = T .finds ∙ values ∙ ap (λ c. c orElse named tag .check l (body at)) length-found;
+        goes-on = λ p.
+            let same = tag-found (orElse-parts (headed (byteAt l at)) _ (sym (T .finds) ∙ p) .0) in
+            T .goes-on p ∙ ap (λ k. behind at (named k .size)) same;
+      }

@@ -1,14 +1,16 @@
 -- The field that a tag names, in the file of a film with n cells and t thicknesses; and how far a walk over such fields may come.
+use mathlib.Core.Path.{_≡_}
 use mathlib.Core.Bool.{cond}
 use mathlib.Core.List.{List}
 use Prim.Native.Nat.{ℕ, _≤_}
 use lib.Dec.{eqb}
-use Rattle.model.specs.Refusals.{Check, pass, _orElse_}
-use Rattle.model.specs.Fields.{Field, body, fieldAt}
+use Rattle.model.specs.Refusals.{Check, pass, _orElse_, checkOf}
+use Rattle.model.specs.Fields.{Field, body, behind, fieldAt}
 use Rattle.model.specs.File.{shapeField, ceilingField, weightsField, thicknessesField, wedgeField}
+use Rattle.fields.specs.declared.Walked.{Walked}
 
 -- a tag that no field has
-abbrev unknown : Field
+abbrev pub unknown : Field
 unknown = record { tag = 0; size = 0; check = λ bytes at. pass }
 
 abbrev pub fieldFor : ℕ → ℕ → ℕ → Field
@@ -17,10 +19,14 @@ fieldFor tag n t =
     (cond (eqb tag 2) ceilingField
     (cond (eqb tag 3) (weightsField n) (cond (eqb tag 4) (thicknessesField t) (cond (eqb tag 5) wedgeField unknown))))
 
--- the field with that tag at an offset: header and values
-abbrev pub fieldTest : ℕ → ℕ → ℕ → List ℕ → ℕ → Check
-fieldTest tag n t bytes at =
-    fieldAt bytes at tag (fieldFor tag n t .size) orElse fieldFor tag n t .check bytes (body at)
+-- a field at an offset where that tag should stand: header and values
+abbrev pub testOf : Field → ℕ → List ℕ → ℕ → Check
+testOf f tag bytes at = fieldAt bytes at tag (f .size) orElse f .check bytes (body at)
+
+-- what its test gives: what it finds and, where it passes, the offset behind the field
+pub record Tries (f : Field) (tag : ℕ) (bytes : List ℕ) (at : ℕ) (w : Walked) : Type 0 where
+  pub finds : checkOf (w .tested) ≡ testOf f tag bytes at
+  pub goes-on : checkOf (w .tested) ≡ pass → w .next ≡ behind at (f .size)
 
 -- Sides of up to 255 stand in a file before they are tested, and so the offsets behind its fields are small numbers all the same.
 pub record Room (at n t : ℕ) : Type 0 where

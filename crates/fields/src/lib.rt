@@ -1,35 +1,35 @@
 // One field of a film file, as the reader tests it: header, tag, length, presence of the body, values. The tag byte that stands in the
-// file chooses the one permitted length of the body and the test of its values. Internal: the walk along a file calls it.
+// file is matched once, and chooses the one permitted length of the body, the test of its values and where the next field stands.
+// Internal: the walk along a file calls it.
 //
-// Proved: what a field's test finds is what crate `model` says of the field with that tag (`fieldTest`), at every offset of every file.
-// Values are tested where they stand, once the whole body is there; so no file that is cut short needs a case of its own.
+// Proved: what a field's test finds is what crate `model` says of the field with that tag, and where it passes the next field stands
+// behind this one (`Tries`), at every offset of every file. Values are tested where they stand, once the whole body is there; so no
+// file that is cut short needs a case of its own.
 ghost use mathlib.Core.Path.{_≡_};
 ghost use Prim.Native.Nat.{_+_, _*_, _≤_};
 ghost use lib.ListN.{length};
 ghost use Rattle.model.specs.Refusals.{checkOf};
 ghost use Rattle.model.specs.Checks.{shapeCheck, ceilingCheck};
 ghost use Rattle.model.specs.Bytes.{byteAt, wordAt, longAt, signedOf};
-ghost use Rattle.model.specs.Fields.{behind, fieldAt};
-ghost use Rattle.model.specs.File.{weightsFrom, thicknessesFrom, wedgeCheck};
-ghost use Rattle.fields.specs.Tags.{fieldFor, fieldTest, Room};
-use model::Fault;
+ghost use Rattle.model.specs.Fields.{fieldAt};
+ghost use Rattle.model.specs.File.{weightsFrom, thicknessesFrom, wedgeCheck, shapeField, ceilingField, weightsField, thicknessesField, wedgeField};
+ghost use Rattle.fields.specs.Tags.{unknown, fieldFor, Tries, Room};
+use fault::Fault;
 use model::Refusal;
 use model::Tested;
 
-// The one permitted length of a body, by the tag: n cells, t thicknesses. Tags that no field has get none.
-fn body_length(tag: u8, n: usize, t: usize) -> usize
-    requires { ⌜ n ≤ 65025 ⌝ }
-    ensures { λ r. ⌜ r ≡ fieldFor tag n t .size ⌝ }
-{
-    match tag {
-        1 => 2,
-        2 => 4,
-        3 => 2 * n,
-        4 => t,
-        5 => 4,
-        0 | 6..=255 => 0,
-    }
+// What the test of a field has found, and the offset behind the field.
+pub struct Walked {
+    pub tested: Tested,
+    pub next: usize,
 }
+
+// The one permitted length of a body, for the fields that have the same one in every file.
+const SHAPE_LENGTH: usize = 2;
+
+const CEILING_LENGTH: usize = 4;
+
+const WEDGE_LENGTH: usize = 4;
 
 // Refusals 1, 2 and 3: a header at `at`, with that tag and that length, and the whole body after it.
 fn header_test(file: &[u8], at: usize, tag: u8, size: usize) -> Tested
@@ -37,16 +37,18 @@ fn header_test(file: &[u8], at: usize, tag: u8, size: usize) -> Tested
     ensures { λ r. ⌜ checkOf r ≡ fieldAt (now (file .entry)) at tag size ⌝ }
 {
     let end = file.len();
-    let found = words::numbers::byte_at(file, at);
-    let length = words::numbers::word_at(file, at + 1) as usize;
-    let header = refusals::fail_if(end < at + 3, Fault::Truncated, end);
-    let stray = refusals::fail_if(found != tag, Fault::Unexpected, at);
+    if end < at + 3 {
+        return Tested::Refused(Refusal {
+            fault: Fault::Truncated,
+            place: end,
+        });
+    }
+    let from = at + 1;
+    let length = words::numbers::first_word(&file[from..]) as usize;
+    let stray = refusals::fail_if(file[at] != tag, Fault::Unexpected, at);
     let misfit = refusals::fail_if(length != size, Fault::WrongLength, at);
     let body = refusals::fail_if(end < at + 3 + size, Fault::Truncated, end);
-    refusals::or_else(
-        header,
-        refusals::or_else(stray, refusals::or_else(misfit, body)),
-    )
+    refusals::or_else(stray, refusals::or_else(misfit, body))
 }
 
 // Refusal 4, of the two bytes at `at`.
@@ -104,37 +106,113 @@ fn wedge_values(file: &[u8], at: usize) -> Tested
     gauge::wedge_test(wedge, at)
 }
 
-// The values of the body at `at`, by the tag: the whole body is there.
-fn value_test(tag: u8, file: &[u8], at: usize, n: usize, t: usize) -> Tested
-    requires { ⌜ (at + fieldFor tag n t .size ≤ length (now file)) × (at ≤ 900000) × (n ≤ 65025) × (t ≤ 66049) ⌝ }
-    ensures { λ r. ⌜ checkOf r ≡ fieldFor tag n t .check (now (file .entry)) at ⌝ }
+// Field 01 at `at`, where that tag should stand: header and, where that passes, values.
+fn shape_field(file: &[u8], at: usize, tag: u8) -> Walked
+    requires { ⌜ at ≤ 800000 ⌝ }
+    ensures { λ w. ⌜ Tries shapeField tag (now (file .entry)) at w ⌝ }
 {
-    match tag {
-        1 => shape_values(file, at),
-        2 => ceiling_values(file, at),
-        3 => weight_values(file, at, n),
-        4 => thickness_values(file, at, t),
-        5 => wedge_values(file, at),
-        0 | 6..=255 => Tested::Fine,
+    match header_test(file, at, tag, SHAPE_LENGTH) {
+        Tested::Fine => Walked {
+            tested: shape_values(file, at + 3),
+            next: at + 3 + SHAPE_LENGTH,
+        },
+        Tested::Refused(r) => Walked {
+            tested: Tested::Refused(r),
+            next: at,
+        },
     }
 }
 
-// The field that should have that tag, at an offset: what stands there chooses the length and the test of the values.
-pub fn field_test(file: &[u8], at: usize, tag: u8, n: usize, t: usize) -> Tested
-    requires { ⌜ Room at n t ⌝ }
-    ensures { λ r. ⌜ checkOf r ≡ fieldTest tag n t (now (file .entry)) at ⌝ }
+// Field 02.
+fn ceiling_field(file: &[u8], at: usize, tag: u8) -> Walked
+    requires { ⌜ at ≤ 800000 ⌝ }
+    ensures { λ w. ⌜ Tries ceilingField tag (now (file .entry)) at w ⌝ }
 {
-    let found = words::numbers::byte_at(file, at);
-    match header_test(file, at, tag, body_length(found, n, t)) {
-        Tested::Fine => value_test(found, file, at + 3, n, t),
-        Tested::Refused(r) => Tested::Refused(r),
+    match header_test(file, at, tag, CEILING_LENGTH) {
+        Tested::Fine => Walked {
+            tested: ceiling_values(file, at + 3),
+            next: at + 3 + CEILING_LENGTH,
+        },
+        Tested::Refused(r) => Walked {
+            tested: Tested::Refused(r),
+            next: at,
+        },
     }
 }
 
-// The offset behind the field that stands there.
-pub fn next_at(file: &[u8], at: usize, n: usize, t: usize) -> usize
-    requires { ⌜ Room at n t ⌝ }
-    ensures { λ r. ⌜ r ≡ behind at (fieldFor (byteAt (now (file .entry)) at) n t .size) ⌝ }
+// Field 03, of n weights.
+fn weights_field(file: &[u8], at: usize, tag: u8, n: usize) -> Walked
+    requires { ⌜ (at ≤ 800000) × (n ≤ 65025) ⌝ }
+    ensures { λ w. ⌜ Tries (weightsField n) tag (now (file .entry)) at w ⌝ }
 {
-    at + 3 + body_length(words::numbers::byte_at(file, at), n, t)
+    match header_test(file, at, tag, 2 * n) {
+        Tested::Fine => Walked {
+            tested: weight_values(file, at + 3, n),
+            next: at + 3 + 2 * n,
+        },
+        Tested::Refused(r) => Walked {
+            tested: Tested::Refused(r),
+            next: at,
+        },
+    }
+}
+
+// Field 04, of t thicknesses.
+fn thicknesses_field(file: &[u8], at: usize, tag: u8, t: usize) -> Walked
+    requires { ⌜ (at ≤ 800000) × (t ≤ 66049) ⌝ }
+    ensures { λ w. ⌜ Tries (thicknessesField t) tag (now (file .entry)) at w ⌝ }
+{
+    match header_test(file, at, tag, t) {
+        Tested::Fine => Walked {
+            tested: thickness_values(file, at + 3, t),
+            next: at + 3 + t,
+        },
+        Tested::Refused(r) => Walked {
+            tested: Tested::Refused(r),
+            next: at,
+        },
+    }
+}
+
+// Field 05.
+fn wedge_field(file: &[u8], at: usize, tag: u8) -> Walked
+    requires { ⌜ at ≤ 800000 ⌝ }
+    ensures { λ w. ⌜ Tries wedgeField tag (now (file .entry)) at w ⌝ }
+{
+    match header_test(file, at, tag, WEDGE_LENGTH) {
+        Tested::Fine => Walked {
+            tested: wedge_values(file, at + 3),
+            next: at + 3 + WEDGE_LENGTH,
+        },
+        Tested::Refused(r) => Walked {
+            tested: Tested::Refused(r),
+            next: at,
+        },
+    }
+}
+
+// A byte that no field has as its tag: no length is permitted but none.
+fn no_field(file: &[u8], at: usize, tag: u8) -> Walked
+    requires { ⌜ at ≤ 800000 ⌝ }
+    ensures { λ w. ⌜ Tries unknown tag (now (file .entry)) at w ⌝ }
+{
+    Walked {
+        tested: header_test(file, at, tag, 0),
+        next: at + 3,
+    }
+}
+
+// The field that should have that tag, at an offset: the byte that stands there chooses which one is tested.
+pub fn field_test(file: &[u8], at: usize, tag: u8, n: usize, t: usize) -> Walked
+    requires { ⌜ Room at n t ⌝ }
+    ensures { λ w. ⌜ Tries (fieldFor tag n t) tag (now (file .entry)) at w ⌝ }
+{
+    match words::numbers::byte_at(file, at) {
+        1 => shape_field(file, at, tag),
+        2 => ceiling_field(file, at, tag),
+        3 => weights_field(file, at, tag, n),
+        4 => thicknesses_field(file, at, tag, t),
+        5 => wedge_field(file, at, tag),
+        0 | 6..=255 => no_field(file, at, tag),
+    }
 }

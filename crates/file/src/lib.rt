@@ -13,7 +13,7 @@ ghost use Rattle.model.specs.Bytes.{wordAt};
 ghost use Rattle.model.specs.File.{gauged, weightsOffset, cellsIn, ringIn, gaugeIn, gaugeDominance, fieldsCheck};
 ghost use Rattle.model.specs.FileCalls.{gaugeOf, headOf, saveCall, saveAnswerOf, Loads, loadAnswerOf};
 ghost use Rattle.file.specs.Reading.{LoadsBy};
-use model::Fault;
+use fault::Fault;
 use model::Head;
 use model::Loaded;
 use model::Saved;

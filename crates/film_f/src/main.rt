@@ -43,7 +43,7 @@ fn counts(word: &[u8], c: Counts) {
 fn refused(r: Refusal) {
     let fault = r.fault;
     text(b"REFUSED");
-    spaced(told::number_of(fault) as u64);
+    spaced(fault.number() as u64);
     spaced(r.place as u64);
 }
 

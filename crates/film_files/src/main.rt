@@ -32,7 +32,7 @@ fn signed(x: i64) {
 fn refused(r: Refusal) {
     let fault = r.fault;
     text(b"REFUSED");
-    spaced(told::number_of(fault) as u64);
+    spaced(fault.number() as u64);
     spaced(r.place as u64);
     text(b"\n");
 }

@@ -15,7 +15,7 @@ ghost use Rattle.model.specs.Checks.{outside, shapeCheck};
 ghost use Rattle.model.specs.File.{rowsOffset, columnsOffset, wedgeCheck, gaugeCheck};
 ghost use Rattle.model.specs.FileCalls.{gaugeOf, gaugeFits};
 ghost use Rattle.gauge.specs.Tests.{numbersCheck, valuesCheck, sizedCheck, Measured};
-use model::Fault;
+use fault::Fault;
 use model::Head;
 use model::Refusal;
 use model::Tested;

@@ -11,7 +11,7 @@ ghost use Rattle.model.specs.Refusals.{pass, checkOf};
 ghost use Rattle.model.specs.Checks.{badCoefficient, coefficientCheck};
 ghost use Rattle.model.specs.Accepted.{Sized};
 ghost use Rattle.refusals.specs.Parts.{unweighted, coefficientsTo};
-use model::Fault;
+use fault::Fault;
 use model::Head;
 use model::Refusal;
 use model::Tested;

@@ -11,7 +11,8 @@ use Rattle.monotone.specs.Links.{pull}
 use Rattle.model.specs.Limits.{estimateLimit}
 use Rattle.model.specs.Lists.{tabulate}
 use Rattle.model.specs.Integers.{negative}
-use Rattle.model.specs.Refusals.{Check, pass, fail, numberOf}
+use Rattle.fault.specs.Numbers.{numberOf}
+use Rattle.model.specs.Refusals.{Check, pass, fail}
 use Rattle.model.specs.Film.{Film, across, diagonalAt, rightAt, sourceAt, weightAt, slack}
 use Rattle.model.specs.Checks.{fieldCheck, lineCheck}
 use Rattle.model.specs.Result.{Result}

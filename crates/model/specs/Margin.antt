@@ -4,7 +4,8 @@ use Rattle.monotone.specs.Links.{pull}
 use Rattle.monotone.specs.Linear.{requiredOf}
 use Rattle.model.specs.Lists.{greatest}
 use Rattle.model.specs.Integers.{lift}
-use Rattle.model.specs.Refusals.{Check, pass, fail, numberOf}
+use Rattle.fault.specs.Numbers.{numberOf}
+use Rattle.model.specs.Refusals.{Check, pass, fail}
 use Rattle.model.specs.Film.{Film, sizeOf, neighbours, dominance}
 use Rattle.model.specs.Checks.{filmCheck}
 use Rattle.model.specs.declared.Margin.{Margin}

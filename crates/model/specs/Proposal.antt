@@ -6,7 +6,8 @@ use lib.Dec.{leb, ltb, eqb}
 use lib.ListN.{length, getD}
 use Rattle.model.specs.Lists.{tabulate, countBelow, allBelow}
 use Rattle.model.specs.Integers.{atMostZero}
-use Rattle.model.specs.Refusals.{Check, pass, fail, numberOf}
+use Rattle.fault.specs.Numbers.{numberOf}
+use Rattle.model.specs.Refusals.{Check, pass, fail}
 use Rattle.model.specs.Film.{Film, sizeOf, slack}
 use Rattle.model.specs.Checks.{fieldCheck, lineCheck}
 use Rattle.model.specs.Result.{Result}

@@ -1,29 +1,11 @@
--- Document 01, "Refusals": their numbers and places, and the order of tests.
+-- Document 01, "Refusals": their places, and the order of tests. Their numbers are in crate `fault`.
 use mathlib.Core.Bool.{Bool, cond}
 use Prim.Native.Nat.{ℕ}
 use lib.Dec.{ltb}
 use Rattle.model.specs.Lists.{firstOf}
-use Rattle.model.specs.declared.Fault.{Fault}
-use Rattle.model.specs.declared.Fault.the-variants as faults
+use Rattle.fault.specs.Numbers.{numberOf}
 use Rattle.model.specs.declared.Tested.{Tested}
 use Rattle.model.specs.declared.Tested.the-variants as tests
-
--- the trade's words are in the comments
-abbrev pub numberOf : Fault → ℕ
-numberOf faults.Truncated = 1  -- cut short
-numberOf faults.Unexpected = 2  -- stray
-numberOf faults.WrongLength = 3  -- misfit
-numberOf faults.BadShape = 4  -- shape
-numberOf faults.BadCeiling = 5  -- ceiling
-numberOf faults.ZeroWeight = 6  -- no weight
-numberOf faults.BadThickness = 7  -- thickness
-numberOf faults.BadWedge = 8  -- wedge
-numberOf faults.NotDominant = 9  -- unheld
-numberOf faults.WrongBuffer = 10  -- buffer
-numberOf faults.BadOrder = 11  -- order
-numberOf faults.StartAboveCeiling = 12  -- start
-numberOf faults.OutOfGrid = 13  -- line
-numberOf faults.BadCoefficient = 14  -- coefficient
 
 -- a test of an input passes, or fails with a refusal's number and place
 pub data Check : Type 0 where

@@ -7,7 +7,8 @@ use lib.ListN.{getD, set}
 use Rattle.monotone.specs.Linear.{requiredOf}
 use Rattle.monotone.specs.Sweep as theory
 use Rattle.model.specs.Integers.{lift, drop}
-use Rattle.model.specs.Refusals.{Check, pass, fail, numberOf}
+use Rattle.fault.specs.Numbers.{numberOf}
+use Rattle.model.specs.Refusals.{Check, pass, fail}
 use Rattle.model.specs.Film.{Film, diagonalAt, sourceAt, pullOf, slack}
 use Rattle.model.specs.Checks.{fieldCheck, cellCheck}
 use Rattle.model.specs.Result.{Result}

@@ -3,7 +3,8 @@ use mathlib.Core.List.{List}
 use Prim.Native.Nat.{ℕ}
 use lib.Dec.{ltb}
 use lib.ListN.{length}
-use Rattle.model.specs.Refusals.{Check, pass, fail, numberOf, failIf}
+use Rattle.fault.specs.Numbers.{numberOf}
+use Rattle.model.specs.Refusals.{Check, pass, fail, failIf}
 use Rattle.model.specs.Result.{Result}
 use Rattle.model.specs.FileCalls.{laidOver}
 use Rattle.model.specs.Report.{reportOf}

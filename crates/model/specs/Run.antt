@@ -5,7 +5,8 @@ use Prim.Native.Nat.{ℕ, zero, suc, _+_, _-_, _/_, _%_}
 use lib.Dec.{eqb}
 use Rattle.monotone.specs.Ordering.{splitOrder}
 use Rattle.monotone.specs.Sweep as theory
-use Rattle.model.specs.Refusals.{Check, pass, fail, numberOf}
+use Rattle.fault.specs.Numbers.{numberOf}
+use Rattle.model.specs.Refusals.{Check, pass, fail}
 use Rattle.model.specs.Film.{Film, sizeOf, rule}
 use Rattle.model.specs.Checks.{fieldCheck, orderCheck}
 use Rattle.model.specs.Result.{Result}

@@ -8,6 +8,7 @@
 // proofs/ ties them to the theory of the crate `monotone`: slack and required pressure, the accept test, the orderings, that
 // a film which passes its tests makes every call a good one, and that the formed coefficients are Reynolds' difference
 // form; and it has film F's edges as one theorem.
+use fault::Fault;
 
 // A film's shape and ceiling.
 pub struct Head {
@@ -16,24 +17,7 @@ pub struct Head {
     pub ceiling: u32,
 }
 
-// Why a call is refused. specs/Refusals has document 01's number of each.
-pub enum Fault {
-    Truncated,
-    Unexpected,
-    WrongLength,
-    BadShape,
-    BadCeiling,
-    ZeroWeight,
-    BadThickness,
-    BadWedge,
-    NotDominant,
-    WrongBuffer,
-    BadOrder,
-    StartAboveCeiling,
-    OutOfGrid,
-    BadCoefficient,
-}
-
+// A refused call: why, and where.
 pub struct Refusal {
     pub fault: Fault,
     pub place: usize,

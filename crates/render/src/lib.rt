@@ -6,7 +6,7 @@ ghost use mathlib.Core.Path.{_≡_};
 ghost use mathlib.Core.List.{List, [], _++_};
 ghost use Prim.Native.Nat.{ℕ, _+_, _*_, _/_, _%_, _≤_, _<_};
 ghost use lib.ListN.{length};
-ghost use Rattle.model.specs.Refusals.{numberOf};
+ghost use Rattle.fault.specs.Numbers.{numberOf};
 ghost use Rattle.model.specs.Film.{filmOf};
 ghost use Rattle.model.specs.Accepted.{Limited};
 ghost use Rattle.model.specs.Run.{runAnswerOf};
@@ -66,7 +66,7 @@ pub fn put_refused(refusal: Refusal, out: &mut [u8], at: usize) -> usize
         out,
         at,
         b"REFUSED",
-        told::number_of(fault) as u64,
+        fault.number() as u64,
         refusal.place as u64,
     )
 }

@@ -13,7 +13,7 @@ ghost use Rattle.model.specs.FileCalls.{gaugeOf};
 ghost use Rattle.model.specs.Report.{filmReport, reportOf};
 ghost use Rattle.model.specs.ReportCall.{reportAnswerOf, reportCall};
 ghost use Rattle.text.specs.Writes.{Fits, Writes};
-use model::Fault;
+use fault::Fault;
 use model::Head;
 use model::Loaded;
 use model::Refusal;

@@ -12,7 +12,7 @@ ghost use Rattle.model.specs.File.{gaugeDominance};
 ghost use Rattle.model.specs.FileCalls.{gaugeOf};
 ghost use Rattle.refusals.specs.Parts.{dominanceTo};
 ghost use Rattle.forming.specs.Cell.{Ringed};
-use model::Fault;
+use fault::Fault;
 use model::Head;
 use model::Refusal;
 use model::Tested;

@@ -1,82 +1,116 @@
--- The fields of a walk, one after another: where those before have passed, each stands where the model has it.
-use mathlib.Core.Path.{_≡_, refl, sym, ap, _∙_}
-use mathlib.Core.List.{List, [], _∷_, _++_}
-use Prim.Native.Nat.{ℕ, zero, suc, _+_, _*_, _≤_}
+-- A walk over a film's fields, tag by tag: from where it stands on, the rest of the list gives what the whole list gives from the start.
+use mathlib.Core.Path.{_≡_, refl, sym, ap, subst, _∙_}
+use mathlib.Core.Bool.{true, false}
+use mathlib.Core.List.{List, [], _∷_}
+use Prim.Native.Nat.{ℕ, zero, suc, _+_, _-_, _*_, _≤_, _<_}
 use native.Mathlib.Omega.{arith}
-use lib.Dec.{ltb}
-use lib.ListN.{length}
-use Rattle.model.specs.Refusals.{Check, pass, _orElse_, failIf, checkOf}
-use Rattle.model.specs.Bytes.{byteAt}
-use Rattle.model.specs.Fields.{Field, body, behind, endOf, fieldAt, walk, strayAt}
-use Rattle.model.specs.File.{gauged, endOffset, fieldsCheck}
-use Rattle.model.proofs.Checks.{orElse-parts}
-use Rattle.model.proofs.Fields.{header, walk-append, end-append}
-use Rattle.refusals.proofs.Chain.{orElse-pass, orElse-given}
-use Rattle.fields.specs.Tags.{fieldFor, fieldTest, Room}
+use borrow.Author.Tests.{eqb-true, eqb-false}
+use lib.Dec.{T, eqb}
+use lib.ListN.{drop}
+use Rattle.model.specs.Refusals.{Check, pass, fail, _orElse_, checkOf}
+use Rattle.model.specs.Fields.{Field, behind, endOf, walk}
+use Rattle.model.specs.File.{gauged}
+use Rattle.fields.specs.declared.Walked.{Walked}
+use Rattle.fields.specs.Tags.{fieldFor, testOf, Tries, Room}
 use Rattle.fields.proofs.Tags.{size-low}
-use Rattle.view.specs.declared.Walked.{Walked}
-use Rattle.view.specs.Walks.{after, place, Walks}
+use Rattle.view.specs.Walks.{ended, Walks}
+
+-- what holds of each of the five tags
+of-tags : (P : ℕ → Type 0) → P 1 → P 2 → P 3 → P 4 → P 5 → (tag : ℕ) → 1 ≤ tag → tag ≤ 5 → P tag
+of-tags P a b c d e zero h k = absurd (omega arith)
+of-tags P a b c d e (suc zero) h k = a
+of-tags P a b c d e (suc (suc zero)) h k = b
+of-tags P a b c d e (suc (suc (suc zero))) h k = c
+of-tags P a b c d e (suc (suc (suc (suc zero)))) h k = d
+of-tags P a b c d e (suc (suc (suc (suc (suc zero))))) h k = e
+of-tags P a b c d e (suc (suc (suc (suc (suc (suc m)))))) h k = absurd (omega arith)
+
+-- how a walk goes on, or not
+goes-on : (c : Check) (tag : ℕ) → ended c tag ≡ false → (c ≡ pass) × (eqb tag 5 ≡ false)
+goes-on pass tag e = (refl, e)
+goes-on (fail number place) tag e = absurd (subst T e tt)
+
+refused-passes : {X : Type 0} {number place : ℕ} → fail number place ≡ pass → X
+refused-passes e = let z : _≡_ {A = ℕ} 0 1 = cc in absurd (omega arith)
+
+-- the fields of a film from a tag on
+abbrev from : ℕ → ℕ → ℕ → List Field
+from n t tag = drop (tag - 1) (gauged n t)
 
 module _ (l : List ℕ) (n t : ℕ) where
-  pub place-none : place l n t 0 ≡ 0
-  unfolding place
-  place-none = refl
+  from-tag : (tag : ℕ) → 1 ≤ tag → tag ≤ 5 → (from n t tag ≡ fieldFor tag n t ∷ from n t (tag + 1)) × (fieldFor tag n t .tag ≡ tag)
+  from-tag =
+      of-tags (λ tag. (from n t tag ≡ fieldFor tag n t ∷ from n t (tag + 1)) × (fieldFor tag n t .tag ≡ tag))
+      (refl, refl) (refl, refl) (refl, refl) (refl, refl) (refl, refl)
 
-  pub place-more : (k : ℕ) → place l n t (suc k) ≡ after l n t (place l n t k)
-  unfolding place
-  place-more k = refl
+  -- the fields before that tag have passed, and its own should stand at that offset
+  pub record On (tag at : ℕ) : Type 0 where
+    pub low : 1 ≤ tag
+    pub high : tag ≤ 5
+    pub near : at ≤ (tag - 1) * 130053
+    pub tests : walk (gauged n t) l 0 ≡ walk (from n t tag) l at
+    pub end : endOf (gauged n t) 0 ≡ endOf (from n t tag) at
 
-  pub place-next : (k : ℕ) {a b : ℕ} → a ≡ place l n t k → b ≡ after l n t a → b ≡ place l n t (suc k)
-  place-next k e f = f ∙ ap (after l n t) e ∙ sym (place-more k)
+  pub begins : On 1 0
+  begins = record { low = omega arith; high = omega arith; near = omega arith; tests = refl; end = refl }
 
-  -- no field stands far from the start
-  near : n ≤ 65025 → t ≤ 66049 → (k : ℕ) → place l n t k ≤ k * 130053
-  near h b zero = omega (arith, place-none)
-  near h b (suc k) = omega (arith, place-more k, near h b k, size-low (byteAt l (place l n t k)) n t h b)
+  -- the film's sides are small, so no field stands far from the start
+  module _ (few : (n ≤ 65025) × (t ≤ 66049)) {tag at : ℕ} (o : On tag at) where
+    pub room : Room at n t
+    room = record { at-low = omega (arith, o .near, o .high); cells-few = few .0; ring-few = few .1 }
 
-  pub room : (n ≤ 65025) × (t ≤ 66049) → (k : ℕ) {a : ℕ} → a ≡ place l n t k → k ≤ 5 → Room a n t
-  room few k e h = record { at-low = omega (arith, near (few .0) (few .1) k, e, h); cells-few = few .0; ring-few = few .1 }
+    -- the rest of the list begins with the field of that tag; the others stand behind it
+    abbrev f : Field
+    f = fieldFor tag n t
 
-  -- the first k fields are fs, and their tests have found c
-  record Trail (k : ℕ) (fs : List Field) (c : Check) : Type 0 where
-    found : c ≡ walk fs l 0
-    comes : c ≡ pass → place l n t k ≡ endOf fs 0
+    abbrev others : List Field
+    others = from n t (tag + 1)
 
-  -- one field more, with the next tag
-  trail-next : {k : ℕ} {fs : List Field} {c x : Check} (tag : ℕ) → fieldFor tag n t .tag ≡ tag → Trail k fs c → x ≡ fieldTest tag n t l (place l n t k)
-      → Trail (suc k) (fs ++ (fieldFor tag n t ∷ [])) (c orElse x)
-  trail-next {k} {fs} {c} {x} tag same T e = record { found = finds; comes = ends }
-    where
-      test : c ≡ pass → x ≡ walk (fieldFor tag n t ∷ []) l (endOf fs 0)
-      test p =
-          e
-          ∙ (λ i. fieldAt l (T .comes p i) (sym same i) (fieldFor tag n t .size) orElse fieldFor tag n t .check l (body (T .comes p i)))
-          ∙ sym (orElse-pass _)
+    abbrev after : ℕ
+    after = behind at (f .size)
 
-      finds : (c orElse x) ≡ walk (fs ++ (fieldFor tag n t ∷ [])) l 0
-      finds =
-          orElse-given c test
-          ∙ ap (λ y. y orElse walk (fieldFor tag n t ∷ []) l (endOf fs 0)) (T .found)
-          ∙ sym (walk-append fs (fieldFor tag n t ∷ []) l 0)
+    rest : (from n t tag ≡ f ∷ others) × (f .tag ≡ tag)
+    rest = from-tag tag (o .low) (o .high)
 
-      ends : (c orElse x) ≡ pass → place l n t (suc k) ≡ endOf (fs ++ (fieldFor tag n t ∷ [])) 0
-      ends p =
-          let parts = orElse-parts c x p in
-          let field = orElse-parts (fieldAt l (place l n t k) tag (fieldFor tag n t .size)) _ (sym e ∙ parts .1) in
-          let tag-is = header l (place l n t k) tag (fieldFor tag n t .size) (field .0) .tag-is in
-          place-more k
-          ∙ ap (λ y. behind (place l n t k) (fieldFor y n t .size)) tag-is
-          ∙ ap (λ y. behind y (fieldFor tag n t .size)) (T .comes (parts .0))
-          ∙ sym (end-append fs (fieldFor tag n t ∷ []) 0)
+    module _ {w : Walked} (W : Tries f tag l at w) where
+      found : walk (gauged n t) l 0 ≡ (checkOf (w .tested) orElse walk others l after)
+      found =
+          o .tests
+          ∙ ap (λ fs. walk fs l at) (rest .0)
+          ∙ ap (λ c. c orElse walk others l after) (sym (W .finds ∙ ap (λ k. testOf f k l at) (sym (rest .1))))
 
-  -- the five of a film, and then what follows them
-  pub fields-found : {w : Walked} {r : Check} → Walks l n t w
-      → r ≡ (((((checkOf (w .shape) orElse checkOf (w .ceiling)) orElse checkOf (w .weights)) orElse checkOf (w .thicknesses)) orElse checkOf (w .wedge))
-      orElse failIf (ltb (w .end) (length l)) 2 (w .end))
-      → r ≡ fieldsCheck (gauged n t) l
-  fields-found {w} W e =
-      let begin : Trail 0 [] pass = record { found = refl; comes = λ _. place-none } in
-      let all = trail-next 5 refl (trail-next 4 refl (trail-next 3 refl (trail-next 2 refl (trail-next 1 refl begin (W .shape)) (W .ceiling)) (W .weights)) (W .thicknesses)) (W .wedge) in
-      e
-      ∙ orElse-given _ (λ p. ap (strayAt l) (W .end ∙ all .comes p))
-      ∙ ap (λ c. c orElse strayAt l (endOffset n t)) (all .found)
+      ends-at : endOf (gauged n t) 0 ≡ endOf others after
+      ends-at = o .end ∙ ap (λ fs. endOf fs at) (rest .0)
+
+      -- it passes and is not the last: the walk goes on behind it
+      pub goes : ended (checkOf (w .tested)) tag ≡ false → On (tag + 1) (w .next) × (tag < 5)
+      goes e =
+          let p = goes-on (checkOf (w .tested)) tag e in
+          let next = W .goes-on (p .0) in
+          let less : tag < 5 = omega (arith, eqb-false tag 5 (p .1), o .high) in
+          let on : On (tag + 1) (w .next) =
+          record {
+            low = omega arith;
+            high = omega arith;
+            near = omega (arith, next, o .near, o .low, size-low tag n t (few .0) (few .1));
+            tests = found ∙ ap (λ c. c orElse walk others l after) (p .0) ∙ ap (walk others l) (sym next);
+            end = ends-at ∙ ap (endOf others) (sym next);
+          } in
+          (on, less)
+
+      -- it is refused, or the last: what it finds is what the walk finds
+      stop : (c : Check) → checkOf (w .tested) ≡ c → ended c tag ≡ true → Walks (gauged n t) l w
+      stop pass q e =
+          let none : others ≡ [] = ap (λ k. from n t (k + 1)) (eqb-true tag 5 e) in
+          record {
+            finds = q ∙ sym (found ∙ (λ i. q i orElse walk (none i) l after));
+            comes = λ p. W .goes-on p ∙ sym (ends-at ∙ ap (λ fs. endOf fs after) none);
+          }
+      stop (fail number place) q e =
+          record {
+            finds = q ∙ sym (found ∙ ap (λ c. c orElse walk others l after) q);
+            comes = λ p. refused-passes (sym q ∙ p);
+          }
+
+      pub stops : ended (checkOf (w .tested)) tag ≡ true → Walks (gauged n t) l w
+      stops = stop (checkOf (w .tested)) refl

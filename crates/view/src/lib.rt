@@ -7,9 +7,10 @@ ghost use mathlib.Core.Path.{_≡_};
 ghost use Prim.Native.Nat.{_≤_};
 ghost use Rattle.model.specs.Refusals.{checkOf};
 ghost use Rattle.model.specs.File.{gauged, fieldsCheck};
-ghost use Rattle.fields.specs.Tags.{fieldTest, Room};
-ghost use Rattle.view.specs.Walks.{after, Walks};
-use model::Fault;
+ghost use Rattle.fields.specs.Tags.{fieldFor, Tries, Room};
+ghost use Rattle.view.specs.Walks.{ended, Walks};
+use fault::Fault;
+use fields::Walked;
 use model::Tested;
 
 // A file's bytes and a position in them: the reader walks a file as this view.
@@ -18,77 +19,60 @@ pub struct View<'a> {
     pub at: usize,
 }
 
-// What the tests of the five fields have found, and the offset behind the last.
-pub struct Walked {
-    pub shape: Tested,
-    pub ceiling: Tested,
-    pub weights: Tested,
-    pub thicknesses: Tested,
-    pub wedge: Tested,
-    pub end: usize,
-}
-
 // The test of the field where a view stands.
-fn viewed<'a>(view: View<'a>, tag: u8, n: usize, t: usize) -> Tested
+fn viewed<'a>(view: View<'a>, tag: u8, n: usize, t: usize) -> Walked
     requires { ⌜ Room (view .at) n t ⌝ }
-    ensures { λ r. ⌜ checkOf r ≡ fieldTest tag n t (now (view .entry .bytes)) (view .entry .at) ⌝ }
+    ensures { λ w. ⌜ Tries (fieldFor tag n t) tag (now (view .entry .bytes)) (view .entry .at) w ⌝ }
 {
     fields::field_test(view.bytes, view.at, tag, n, t)
 }
 
-// The view behind the field where it stands.
-fn moved<'a>(view: View<'a>, n: usize, t: usize) -> View<'a>
-    requires { ⌜ Room (view .at) n t ⌝ }
-    ensures { λ q. ⌜ (q .bytes ≡ view .entry .bytes) × (q .at ≡ after (now (view .entry .bytes)) n t (view .entry .at)) ⌝ }
+// The view at another position of its bytes.
+fn moved<'a>(view: View<'a>, next: usize) -> View<'a>
+    ensures { λ q. ⌜ (q .bytes ≡ view .entry .bytes) × (q .at ≡ next) ⌝ }
 {
-    let at = fields::next_at(view.bytes, view.at, n, t);
     View {
         bytes: view.bytes,
-        at,
+        at: next,
     }
 }
 
-// The five fields of a film with n cells and t thicknesses.
+// Whether a walk ends with a field: it is refused, or it is the last.
+fn ends(step: Walked, tag: u8) -> bool
+    ensures { λ b. ⌜ b ≡ ended (checkOf (step .tested)) tag ⌝ }
+{
+    let tested = step.tested;
+    match tested {
+        Tested::Fine => tag == 5,
+        Tested::Refused(_) => true,
+    }
+}
+
+// The fields of a film with n cells and t thicknesses, one after another, as far as the first that is refused.
 fn walk(file: &[u8], n: usize, t: usize) -> Walked
     requires { ⌜ (n ≤ 65025) × (t ≤ 66049) ⌝ }
-    ensures { λ w. ⌜ Walks (now (file .entry)) n t w ⌝ }
+    ensures { λ w. ⌜ Walks (gauged n t) (now (file .entry)) w ⌝ }
 {
-    let first = View { bytes: file, at: 0 };
-    let shape = viewed(first, 1, n, t);
-    let second = moved(first, n, t);
-    let ceiling = viewed(second, 2, n, t);
-    let third = moved(second, n, t);
-    let weights = viewed(third, 3, n, t);
-    let fourth = moved(third, n, t);
-    let thicknesses = viewed(fourth, 4, n, t);
-    let fifth = moved(fourth, n, t);
-    let wedge = viewed(fifth, 5, n, t);
-    let last = moved(fifth, n, t);
-    Walked {
-        shape,
-        ceiling,
-        weights,
-        thicknesses,
-        wedge,
-        end: last.at,
+    let mut view = View { bytes: file, at: 0 };
+    let mut tag = 1;
+    loop {
+        let step = viewed(view, tag, n, t);
+        if ends(step, tag) {
+            return step;
+        }
+        view = moved(view, step.next);
+        tag += 1;
     }
 }
 
-// The tests of a film's fields in a file, and that nothing follows them: the first that refuses counts, so what a later one finds where an
-// earlier one has refused does not matter.
+// The tests of a film's fields in a file, and that nothing follows them.
 pub fn fields_test(file: &[u8], n: usize, t: usize) -> Tested
     requires { ⌜ (n ≤ 65025) × (t ≤ 66049) ⌝ }
     ensures { λ r. ⌜ checkOf r ≡ fieldsCheck (gauged n t) (now (file .entry)) ⌝ }
 {
     let walked = walk(file, n, t);
-    let shape = walked.shape;
-    let ceiling = walked.ceiling;
-    let weights = walked.weights;
-    let thicknesses = walked.thicknesses;
-    let wedge = walked.wedge;
-    let end = walked.end;
-    let opening = refusals::or_else(refusals::or_else(shape, ceiling), weights);
-    let fields = refusals::or_else(refusals::or_else(opening, thicknesses), wedge);
+    let fields = walked.tested;
+    let end = walked.next;
     refusals::or_else(
         fields,
         refusals::fail_if(end < file.len(), Fault::Unexpected, end),

@@ -1,78 +1,83 @@
--- `fields::field_test` meets its contract: where another tag stands than the one that should, the field is refused before its length or its
--- values count (`length-found`); where it stands, they are that tag's (`values-found`).
-use mathlib.Core.Path.{_≡_, _∙_}
-use native.Mathlib.Omega.{arith}
+-- `fields::field_test` meets its contract: each arm tests the field of the byte that stands there, and where that is not the tag that should,
+-- it is refused before its length or its values count (`tries-found`).
+use mathlib.Core.Logic.{⊎-elim}
+use borrow.Author.Tests.{ne-eqb}
 use denote.Ref.{now}
-use Rattle.model.specs.Refusals.{checkOf}
-use Rattle.model.specs.Fields.{fieldAt}
-use Rattle.model.proofs.Fields.{header}
-use Rattle.refusals.proofs.Chain.{passed, goes-on, refuses}
-use Rattle.fields.specs.Tags.{fieldFor}
-use Rattle.fields.proofs.Tags.{size-low, length-found, values-found}
+use Rattle.fields.specs.declared.Walked.{Walked}
+use Rattle.fields.specs.Tags.{fieldFor, Tries}
+use Rattle.fields.proofs.Tags.{tries-found}
 use borrow.Author.Needs.{needs}
 use Rattle.fields.proofs.field_test.Statement.{statement}
 use Rattle.fields.proofs.field_test.Tie as tie
 
-abbrev start : tie.After-header-test → tie.Start
-start c = c .before .before .before .before
-
--- what the test of the header finds
-tested : (c : tie.After-header-test) → let a = start c .args in
-    checkOf (c .header-test .result) ≡ fieldAt (now (a .file)) (a .at) (a .tag) (fieldFor (a .tag) (a .n) (a .t) .size)
-tested c =
-    let a = start c .args in
-    (rw (c .before .body-length .ensures, c .before .before .byte-at .ensures) at (c .header-test .ensures))
-    ∙ length-found (now (a .file)) (a .at) (a .tag) (a .n) (a .t)
+-- from the field of the byte found to that of the tag
+found : (c : tie.After-byte-at) {w : Walked} → let a = c .before .before .args in
+    Tries (fieldFor (c .byte-at .result) (a .n) (a .t)) (a .tag) (now (a .file)) (a .at) w
+    → Tries (fieldFor (a .tag) (a .n) (a .t)) (a .tag) (now (a .file)) (a .at) w
+found c T =
+    let a = c .before .before .args in
+    tries-found (now (a .file)) (a .at) (a .tag) (a .n) (a .t) (rw (c .byte-at .ensures) at T)
 
 byte-at-requires : tie.Need-byte-at-requires
 byte-at-requires c κs = search needs
 
-body-length-requires : tie.Need-body-length-requires
-body-length-requires c κs = search needs
+shape-field-requires : tie.Need-shape-field-requires
+shape-field-requires c κs = search needs
 
-header-test-requires : tie.Need-header-test-requires
-header-test-requires c κs =
-    let r = c .before .before .before .pre in
-    (omega (arith, r .at-low), omega (arith, c .body-length .ensures, size-low (c .before .byte-at .result) _ _ (r .cells-few) (r .ring-few)))
+ceiling-field-requires : tie.Need-ceiling-field-requires
+ceiling-field-requires c κs = search needs
 
-enum-told : tie.Need-enum-told
-enum-told c = search needs
+weights-field-requires : tie.Need-weights-field-requires
+weights-field-requires c κs = search needs
 
-add-value-test : tie.Need-add-value-test
-add-value-test c = search needs
+thicknesses-field-requires : tie.Need-thicknesses-field-requires
+thicknesses-field-requires c κs = search needs
 
-value-test-requires : tie.Need-value-test-requires
-value-test-requires c κs =
-    let h = c .before .before in
-    let s = start h in
-    let H = header (now (s .args .file)) (s .args .at) (s .args .tag) _ (passed (tested h) (c .enum-told .given .1)) in
-    let same : h .before .before .byte-at .result ≡ s .args .tag = h .before .before .byte-at .ensures ∙ H .tag-is in
-    (rw same (H .fits), omega (arith, s .pre .at-low), s .pre .cells-few, s .pre .ring-few)
+wedge-field-requires : tie.Need-wedge-field-requires
+wedge-field-requires c κs = search needs
 
-enum-known-r : tie.Need-enum-known-r
-enum-known-r c = search needs
+no-field-requires : tie.Need-no-field-requires
+no-field-requires c κs = search needs
 
 returns : tie.Need-returns
-returns c =
-    let h = c .before .before .before in
-    let a = start h .args in
-    let fine = c .before .enum-told .given .1 in
-    let values = rw (h .before .before .byte-at .ensures) at (c .value-test .ensures) in
-    goes-on (tested h) fine (values-found (now (a .file)) (a .at) (a .tag) (a .n) (a .t) (passed (tested h) fine) values)
+returns c = found (c .before .before) (rw (c .before .match .keys1) (c .shape-field .ensures))
 
 returns-2 : tie.Need-returns-2
-returns-2 c = refuses (tested (c .before .before .before)) _ (c .before .r .given .1)
+returns-2 c = found (c .before .before) (rw (c .before .match .keys2) (c .ceiling-field .ensures))
+
+returns-3 : tie.Need-returns-3
+returns-3 c = found (c .before .before) (rw (c .before .match .keys3) (c .weights-field .ensures))
+
+returns-4 : tie.Need-returns-4
+returns-4 c = found (c .before .before) (rw (c .before .match .keys4) (c .thicknesses-field .ensures))
+
+returns-5 : tie.Need-returns-5
+returns-5 c = found (c .before .before) (rw (c .before .match .keys5) (c .wedge-field .ensures))
+
+returns-6 : tie.Need-returns-6
+returns-6 c =
+    found (c .before .before)
+    (⊎-elim (λ w. rw (w .keys6) (c .no-field .ensures))
+    (λ w.
+    let r = w .rest in
+    rw (ne-eqb _ 1 (r .0 .0 .0 .0 .0 .1), ne-eqb _ 2 (r .0 .0 .0 .0 .1), ne-eqb _ 3 (r .0 .0 .0 .1), ne-eqb _ 4 (r .0 .0 .1), ne-eqb _ 5 (r .0 .1))
+    (c .no-field .ensures))
+    (c .before .match .came))
 
 pub field-test-spec : {M : Type 1} → statement M
 field-test-spec =
     tie.close
     (tie.spec
     byte-at-requires
-    body-length-requires
-    header-test-requires
-    enum-told
-    add-value-test
-    value-test-requires
-    enum-known-r
+    shape-field-requires
+    ceiling-field-requires
+    weights-field-requires
+    thicknesses-field-requires
+    wedge-field-requires
+    no-field-requires
     returns
-    returns-2)
+    returns-2
+    returns-3
+    returns-4
+    returns-5
+    returns-6)

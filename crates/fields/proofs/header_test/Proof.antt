@@ -1,24 +1,43 @@
--- `fields::header_test` meets its contract: its four tests are those of `fieldAt`, in its order, made of the byte and the word that stand there.
+-- `fields::header_test` meets its contract: its tests are those of `fieldAt`, in its order; where the header is there, they are made of the
+-- byte and the word that stand in it.
+use mathlib.Core.Path.{_∙_}
+use Prim.Native.Nat.{_+_}
+use borrow.Author.Tests.{lt-ltb, le-ltb}
+use denote.Ref.{now}
 use Rattle.model.specs.Fields.{fieldAt}
 use Rattle.refusals.proofs.Chain.{joined}
+use Rattle.fields.proofs.Parts.{word-from}
 use borrow.Author.Needs.{needs}
 use Rattle.fields.proofs.header_test.Statement.{statement}
 use Rattle.fields.proofs.header_test.Tie as tie
 
-byte-at-requires : tie.Need-byte-at-requires
-byte-at-requires c κs = search needs
+add-if1 : tie.Need-add-if1
+add-if1 c = search needs
 
-add-word-at : tie.Need-add-word-at
-add-word-at c = search needs
+returns : tie.Need-returns
+unfolding fieldAt
+returns c = rw (lt-ltb _ _ (c .if1 .taken))
 
-word-at-requires : tie.Need-word-at-requires
-word-at-requires c κs = search needs
+add-from : tie.Need-add-from
+add-from c = search needs
+
+sub-first-word : tie.Need-sub-first-word
+sub-first-word c = search needs
+
+part-first-word-start : tie.Need-part-first-word-start
+part-first-word-start c = search needs
+
+part-first-word-end : tie.Need-part-first-word-end
+part-first-word-end c = search needs
+
+first-word-requires : tie.Need-first-word-requires
+first-word-requires c κs = search needs
 
 cast-length : tie.Need-cast-length
 cast-length c = search needs
 
-add-fail-if : tie.Need-add-fail-if
-add-fail-if c = search needs
+shared-slice-read-fail-if : tie.Need-shared-slice-read-fail-if
+shared-slice-read-fail-if c = search needs
 
 fail-if-requires : tie.Need-fail-if-requires
 fail-if-requires c κs = search needs
@@ -26,17 +45,14 @@ fail-if-requires c κs = search needs
 fail-if-requires-2 : tie.Need-fail-if-requires-2
 fail-if-requires-2 c κs = search needs
 
-fail-if-requires-3 : tie.Need-fail-if-requires-3
-fail-if-requires-3 c κs = search needs
+add-fail-if : tie.Need-add-fail-if
+add-fail-if c = search needs
 
 add-fail-if-2 : tie.Need-add-fail-if-2
 add-fail-if-2 c = search needs
 
-add-fail-if-3 : tie.Need-add-fail-if-3
-add-fail-if-3 c = search needs
-
-fail-if-requires-4 : tie.Need-fail-if-requires-4
-fail-if-requires-4 c κs = search needs
+fail-if-requires-3 : tie.Need-fail-if-requires-3
+fail-if-requires-3 c κs = search needs
 
 or-else-requires : tie.Need-or-else-requires
 or-else-requires c κs = search needs
@@ -44,38 +60,38 @@ or-else-requires c κs = search needs
 or-else-requires-2 : tie.Need-or-else-requires-2
 or-else-requires-2 c κs = search needs
 
-or-else-requires-3 : tie.Need-or-else-requires-3
-or-else-requires-3 c κs = search needs
-
-returns : tie.Need-returns
+returns-2 : tie.Need-returns-2
 unfolding fieldAt
-returns c =
-    let body = c .before .before .before in
+returns-2 c =
+    let body = c .before .before in
     let misfit = body .before in
     let stray = misfit .before in
-    let header = stray .before in
-    let length = header .before in
-    let found = length .before in
-    joined (c .or-else3 .ensures) (header .fail-if .ensures)
-    (joined (c .before .or-else2 .ensures) (rw (found .byte-at .ensures) at (stray .fail-if2 .ensures))
-    (joined (c .before .before .or-else .ensures) (rw (length .word-at .ensures) at (misfit .fail-if3 .ensures)) (body .fail-if4 .ensures)))
+    let word = stray .before .before in
+    let long = word .before .before in
+    let a = long .before .before .args in
+    let length = word .first-word .ensures ∙ word-from (now (a .file)) (a .at + 1) in
+    rw (le-ltb _ _ (long .if1 .left))
+    (joined (c .or-else2 .ensures) (stray .fail-if .ensures)
+    (joined (c .before .or-else .ensures) (rw length at (misfit .fail-if2 .ensures)) (body .fail-if3 .ensures)))
 
 pub header-test-spec : {M : Type 1} → statement M
 header-test-spec =
     tie.close
     (tie.spec
-    byte-at-requires
-    add-word-at
-    word-at-requires
+    add-if1
+    returns
+    add-from
+    sub-first-word
+    part-first-word-start
+    part-first-word-end
+    first-word-requires
     cast-length
-    add-fail-if
+    shared-slice-read-fail-if
     fail-if-requires
     fail-if-requires-2
-    fail-if-requires-3
+    add-fail-if
     add-fail-if-2
-    add-fail-if-3
-    fail-if-requires-4
+    fail-if-requires-3
     or-else-requires
     or-else-requires-2
-    or-else-requires-3
-    returns)
+    returns-2)

@@ -10,7 +10,8 @@ use lib.Seq.{length-take-le}
 use mir.Syntax.{w32}
 use mir.Val.{toZ, ofZ}
 use mir.Facts.{toZ-ofZ}
-use Rattle.model.specs.Refusals.{numberOf, pass}
+use Rattle.fault.specs.Numbers.{numberOf}
+use Rattle.model.specs.Refusals.{pass}
 use Rattle.model.specs.Gauge.{Gauge}
 use Rattle.model.specs.Coefficients.{formed}
 use Rattle.model.specs.File.{Bytes, Values, gaugeCheck}

@@ -1,0 +1,19 @@
+-- `view::ends` meets its contract: each arm of the match is a clause of `ended`.
+use borrow.Author.Needs.{needs}
+use Rattle.view.proofs.ends.Statement.{statement}
+use Rattle.view.proofs.ends.Tie as tie
+
+enum-told : tie.Need-enum-told
+enum-told c = search needs
+
+enum-told-2 : tie.Need-enum-told-2
+enum-told-2 c = search needs
+
+returns : tie.Need-returns
+returns c = rw (c .enum-told .given .1)
+
+returns-2 : tie.Need-returns-2
+returns-2 c = search needs
+
+pub ends-spec : {M : Type 1} → statement M
+ends-spec = tie.close (tie.spec enum-told enum-told-2 returns returns-2)
