@@ -3,16 +3,13 @@
 // Internal: the walk along a file calls it.
 //
 // Proved: what a field's test finds is what crate `model` says of the field with that tag, and where it passes the next field stands
-// behind this one (`Tries`), at every offset of every file. Values are tested where they stand, once the whole body is there; so no
-// file that is cut short needs a case of its own.
+// behind this one (`Tries`), at every offset of every file. Values are tested once the whole body is there (crate `values`); so no file that
+// is cut short needs a case of its own.
 ghost use mathlib.Core.Path.{_≡_};
-ghost use Prim.Native.Nat.{_+_, _*_, _≤_};
-ghost use lib.ListN.{length};
+ghost use Prim.Native.Nat.{_≤_};
 ghost use Rattle.model.specs.Refusals.{checkOf};
-ghost use Rattle.model.specs.Checks.{shapeCheck, ceilingCheck};
-ghost use Rattle.model.specs.Bytes.{byteAt, wordAt, longAt, signedOf};
 ghost use Rattle.model.specs.Fields.{fieldAt};
-ghost use Rattle.model.specs.File.{weightsFrom, thicknessesFrom, wedgeCheck, shapeField, ceilingField, weightsField, thicknessesField, wedgeField};
+ghost use Rattle.model.specs.File.{shapeField, ceilingField, weightsField, thicknessesField, wedgeField};
 ghost use Rattle.fields.specs.Tags.{unknown, fieldFor, Tries, Room};
 use fault::Fault;
 use model::Refusal;
@@ -51,61 +48,6 @@ fn header_test(file: &[u8], at: usize, tag: u8, size: usize) -> Tested
     refusals::or_else(stray, refusals::or_else(misfit, body))
 }
 
-// Refusal 4, of the two bytes at `at`.
-fn shape_values(file: &[u8], at: usize) -> Tested
-    requires { ⌜ at ≤ 1000000 ⌝ }
-    ensures { λ r. ⌜ checkOf r ≡ shapeCheck (byteAt (now (file .entry)) at) at (byteAt (now (file .entry)) (at + 1)) (at + 1) ⌝ }
-{
-    let rows = words::numbers::byte_at(file, at) as u32;
-    let columns = words::numbers::byte_at(file, at + 1) as u32;
-    refusals::shape_test(rows, at, columns, at + 1)
-}
-
-// Refusal 5, of the number at `at`.
-fn ceiling_values(file: &[u8], at: usize) -> Tested
-    requires { ⌜ at ≤ 1000000 ⌝ }
-    ensures { λ r. ⌜ checkOf r ≡ ceilingCheck (longAt (now (file .entry)) at) at ⌝ }
-{
-    refusals::ceiling_test(words::numbers::long_at(file, at), at)
-}
-
-// Refusal 6, at the lowest of n weights from `at` on.
-fn weight_values(file: &[u8], at: usize, n: usize) -> Tested
-    requires { ⌜ (at + 2 * n ≤ length (now file)) × (at ≤ 1000000) × (n ≤ 65025) ⌝ }
-    ensures { λ r. ⌜ checkOf r ≡ weightsFrom (λ i. wordAt (now (file .entry)) (at + 2 * i)) n at ⌝ }
-{
-    let mut i = 0;
-    while i < n {
-        let place = at + 2 * i;
-        if words::numbers::first_word(&file[place..]) == 0 {
-            return Tested::Refused(Refusal {
-                fault: Fault::ZeroWeight,
-                place: place,
-            });
-        }
-        i += 1;
-    }
-    Tested::Fine
-}
-
-// Refusal 7, at the lowest of t thicknesses from `at` on.
-fn thickness_values(file: &[u8], at: usize, t: usize) -> Tested
-    requires { ⌜ (at + t ≤ length (now file)) × (at + t ≤ 1000000) ⌝ }
-    ensures { λ r. ⌜ checkOf r ≡ thicknessesFrom (λ j. byteAt (now (file .entry)) (at + j)) t at ⌝ }
-{
-    let end = at + t;
-    gauge::thicknesses_test(&file[at..end], at)
-}
-
-// Refusal 8, of the number at `at`.
-fn wedge_values(file: &[u8], at: usize) -> Tested
-    requires { ⌜ at ≤ 1000000 ⌝ }
-    ensures { λ r. ⌜ checkOf r ≡ wedgeCheck (signedOf (longAt (now (file .entry)) at)) at ⌝ }
-{
-    let wedge = words::numbers::signed(words::numbers::long_at(file, at));
-    gauge::wedge_test(wedge, at)
-}
-
 // Field 01 at `at`, where that tag should stand: header and, where that passes, values.
 fn shape_field(file: &[u8], at: usize, tag: u8) -> Walked
     requires { ⌜ at ≤ 800000 ⌝ }
@@ -113,7 +55,7 @@ fn shape_field(file: &[u8], at: usize, tag: u8) -> Walked
 {
     match header_test(file, at, tag, SHAPE_LENGTH) {
         Tested::Fine => Walked {
-            tested: shape_values(file, at + 3),
+            tested: values::shape_values(file, at + 3),
             next: at + 3 + SHAPE_LENGTH,
         },
         Tested::Refused(r) => Walked {
@@ -130,7 +72,7 @@ fn ceiling_field(file: &[u8], at: usize, tag: u8) -> Walked
 {
     match header_test(file, at, tag, CEILING_LENGTH) {
         Tested::Fine => Walked {
-            tested: ceiling_values(file, at + 3),
+            tested: values::ceiling_values(file, at + 3),
             next: at + 3 + CEILING_LENGTH,
         },
         Tested::Refused(r) => Walked {
@@ -147,7 +89,7 @@ fn weights_field(file: &[u8], at: usize, tag: u8, n: usize) -> Walked
 {
     match header_test(file, at, tag, 2 * n) {
         Tested::Fine => Walked {
-            tested: weight_values(file, at + 3, n),
+            tested: values::weight_values(file, at + 3, n),
             next: at + 3 + 2 * n,
         },
         Tested::Refused(r) => Walked {
@@ -164,7 +106,7 @@ fn thicknesses_field(file: &[u8], at: usize, tag: u8, t: usize) -> Walked
 {
     match header_test(file, at, tag, t) {
         Tested::Fine => Walked {
-            tested: thickness_values(file, at + 3, t),
+            tested: values::thickness_values(file, at + 3, t),
             next: at + 3 + t,
         },
         Tested::Refused(r) => Walked {
@@ -181,7 +123,7 @@ fn wedge_field(file: &[u8], at: usize, tag: u8) -> Walked
 {
     match header_test(file, at, tag, WEDGE_LENGTH) {
         Tested::Fine => Walked {
-            tested: wedge_values(file, at + 3),
+            tested: values::wedge_values(file, at + 3),
             next: at + 3 + WEDGE_LENGTH,
         },
         Tested::Refused(r) => Walked {

@@ -6,7 +6,7 @@ use borrow.Author.Tests.{lt-ltb, le-ltb}
 use denote.Ref.{now}
 use Rattle.model.specs.Fields.{fieldAt}
 use Rattle.refusals.proofs.Chain.{joined}
-use Rattle.fields.proofs.Parts.{word-from}
+use Rattle.values.proofs.Parts.{word-from}
 use borrow.Author.Needs.{needs}
 use Rattle.fields.proofs.header_test.Statement.{statement}
 use Rattle.fields.proofs.header_test.Tie as tie

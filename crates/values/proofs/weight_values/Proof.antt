@@ -1,4 +1,4 @@
--- `fields::weight_values` meets its contract: a search (`Search` of crate `refusals`) whose test reads the two bytes of a weight where they stand.
+-- `values::weight_values` meets its contract: a search (`Search` of crate `refusals`) whose test reads the two bytes of a weight where they stand.
 use mathlib.Core.Path.{ap, _∙_}
 use Prim.Native.Nat.{_+_, _-_, _*_}
 use native.Mathlib.Omega.{arith}
@@ -9,9 +9,9 @@ use lib.Dec.{eqb}
 use lib.ListN.{length-drop}
 use Rattle.model.specs.Bytes.{wordAt}
 use Rattle.refusals.proofs.Search.{Searched, search-begins, search-next, search-fails, search-passes}
-use Rattle.fields.proofs.Parts.{rest, word-from}
-use Rattle.fields.proofs.weight_values.Statement.{statement}
-use Rattle.fields.proofs.weight_values.Tie as tie
+use Rattle.values.proofs.Parts.{rest, word-from}
+use Rattle.values.proofs.weight_values.Statement.{statement}
+use Rattle.values.proofs.weight_values.Tie as tie
 
 abbrev Inv-loop : tie.InvT-loop
 Inv-loop file at n i₀ i = Searched (λ k. eqb (wordAt file (at + 2 * k)) 0) n i

@@ -1,10 +1,10 @@
--- `fields::thickness_values` meets its contract: the part of the file that is tested has the bytes that stand there (`part-tested`).
+-- `values::thickness_values` meets its contract: the part of the file that is tested has the bytes that stand there (`part-tested`).
 use mathlib.Core.Path.{_∙_}
 use denote.Ref.{now}
-use Rattle.fields.proofs.Parts.{part-tested}
+use Rattle.values.proofs.Parts.{part-tested}
 use borrow.Author.Needs.{needs}
-use Rattle.fields.proofs.thickness_values.Statement.{statement}
-use Rattle.fields.proofs.thickness_values.Tie as tie
+use Rattle.values.proofs.thickness_values.Statement.{statement}
+use Rattle.values.proofs.thickness_values.Tie as tie
 
 add-end : tie.Need-add-end
 add-end c = search needs

@@ -1,9 +1,9 @@
--- `fields::wedge_values` meets its contract: the four bytes are read as a signed number and tested at their place.
+-- `values::wedge_values` meets its contract: the four bytes are read as a signed number and tested at their place.
 use borrow.Author.Needs.{sfits-of}
 use mir.Facts.{toZ-ofZ}
 use borrow.Author.Needs.{needs}
-use Rattle.fields.proofs.wedge_values.Statement.{statement}
-use Rattle.fields.proofs.wedge_values.Tie as tie
+use Rattle.values.proofs.wedge_values.Statement.{statement}
+use Rattle.values.proofs.wedge_values.Tie as tie
 
 long-at-requires : tie.Need-long-at-requires
 long-at-requires c κs = search needs

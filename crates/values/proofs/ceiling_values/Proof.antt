@@ -1,7 +1,7 @@
--- `fields::ceiling_values` meets its contract: the four bytes are read as a number and tested at their place.
+-- `values::ceiling_values` meets its contract: the four bytes are read as a number and tested at their place.
 use borrow.Author.Needs.{needs}
-use Rattle.fields.proofs.ceiling_values.Statement.{statement}
-use Rattle.fields.proofs.ceiling_values.Tie as tie
+use Rattle.values.proofs.ceiling_values.Statement.{statement}
+use Rattle.values.proofs.ceiling_values.Tie as tie
 
 long-at-requires : tie.Need-long-at-requires
 long-at-requires c κs = search needs

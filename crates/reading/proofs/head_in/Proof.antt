@@ -1,7 +1,7 @@
--- `file::head_in` meets its contract: rows, columns and ceiling are read at 3, 4 and 8, the offsets at which the model has them.
+-- `reading::head_in` meets its contract: rows, columns and ceiling are read at 3, 4 and 8, the offsets at which the model has them.
 use borrow.Author.Needs.{needs}
-use Rattle.file.proofs.head_in.Statement.{statement}
-use Rattle.file.proofs.head_in.Tie as tie
+use Rattle.reading.proofs.head_in.Statement.{statement}
+use Rattle.reading.proofs.head_in.Tie as tie
 
 byte-at-requires : tie.Need-byte-at-requires
 byte-at-requires c κs = search needs

@@ -1,4 +1,4 @@
--- `file::read_fields` meets its contract: a file whose fields have passed has all its numbers (`fields-whole`), what is decoded of them is what
+-- `reading::read_fields` meets its contract: a file whose fields have passed has all its numbers (`fields-whole`), what is decoded of them is what
 -- the model reads (`decoded`), and it is written where 9 passes.
 use mathlib.Core.Path.{_≡_, refl, sym, ap, _∙_}
 use Prim.Native.Nat.{_+_, _-_, _*_, _≤_}
@@ -19,10 +19,10 @@ use Rattle.model.proofs.Lists.{tabulate-length}
 use Rattle.model.proofs.Sides.{cells-low}
 use Rattle.forming.proofs.Cell.{ring-low}
 use Rattle.refusals.proofs.Chain.{passed}
-use Rattle.fields.proofs.Parts.{part-is}
-use Rattle.file.proofs.Reading.{Whole, fields-whole, decoded, film-loaded, film-refused}
-use Rattle.file.proofs.read_fields.Statement.{statement}
-use Rattle.file.proofs.read_fields.Tie as tie
+use Rattle.values.proofs.Parts.{part-is}
+use Rattle.reading.proofs.Numbers.{Whole, fields-whole, decoded, film-loaded, film-refused}
+use Rattle.reading.proofs.read_fields.Statement.{statement}
+use Rattle.reading.proofs.read_fields.Tie as tie
 
 whole : (s : tie.Start) → Whole (now (s .args .file))
 whole s = fields-whole (now (s .args .file)) (s .pre .0)

@@ -1,7 +1,7 @@
--- `fields::shape_values` meets its contract: the two bytes are read as numbers and tested at their places.
+-- `values::shape_values` meets its contract: the two bytes are read as numbers and tested at their places.
 use borrow.Author.Needs.{needs}
-use Rattle.fields.proofs.shape_values.Statement.{statement}
-use Rattle.fields.proofs.shape_values.Tie as tie
+use Rattle.values.proofs.shape_values.Statement.{statement}
+use Rattle.values.proofs.shape_values.Tie as tie
 
 byte-at-requires : tie.Need-byte-at-requires
 byte-at-requires c κs = search needs

@@ -1,4 +1,4 @@
--- `file::weights_in` meets its contract: the table is filled place by place (`Filled` of crate `grid`) with the words that stand in the file.
+-- `reading::weights_in` meets its contract: the table is filled place by place (`Filled` of crate `grid`) with the words that stand in the file.
 use mathlib.Core.Path.{_≡_, _∙_}
 use Prim.Native.Nat.{_+_, _-_, _*_, _≤_}
 use native.Mathlib.Omega.{arith}
@@ -8,9 +8,9 @@ use lib.ListN.{length-drop}
 use Rattle.grid.proofs.Fill.{Filled, fill-none, fill-more}
 use Rattle.model.specs.Bytes.{wordAt}
 use Rattle.model.specs.File.{weightsOffset}
-use Rattle.fields.proofs.Parts.{rest, word-from}
-use Rattle.file.proofs.weights_in.Statement.{statement}
-use Rattle.file.proofs.weights_in.Tie as tie
+use Rattle.values.proofs.Parts.{rest, word-from}
+use Rattle.reading.proofs.weights_in.Statement.{statement}
+use Rattle.reading.proofs.weights_in.Tie as tie
 
 abbrev Inv-loop : tie.InvT-loop
 Inv-loop file n weights₀ i₀ weights i = (i ≤ n) × Filled (λ k. wordAt file (weightsOffset + 2 * k)) i weights₀ weights
