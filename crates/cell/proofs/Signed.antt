@@ -9,15 +9,15 @@ use lib.IntN.{ℤ, pos, negsuc, natAbs, _+ℤ_, _-ℤ_, +ℤ-one}
 use lib.Signed.{ltZ, nonNeg}
 use mir.Syntax.{w64}
 use mir.Val.{SFits, Fits}
-use Rattle.model.specs.Integers.{lift, drop}
+use Rattle.model.specs.Integers.{positivePart, negativePart}
 
 -- what a number below 0 is
 pub record Below (s : ℤ) : Type 0 where
   pub stepped : SFits w64 (s +ℤ pos 1)
-  pub turned : pos 0 -ℤ (s +ℤ pos 1) ≡ pos (drop s - 1)
-  pub some : 0 < drop s
-  pub most : drop s ≤ 2 ^ 63
-  pub none : lift s ≡ 0
+  pub turned : pos 0 -ℤ (s +ℤ pos 1) ≡ pos (negativePart s - 1)
+  pub some : 0 < negativePart s
+  pub most : negativePart s ≤ 2 ^ 63
+  pub none : positivePart s ≡ 0
 
 pub below : (s : ℤ) → SFits w64 s → ltZ s (pos 0) ≡ true → Below s
 below (pos n) f t = let h : n < 0 = ltb-true n 0 t in absurd (omega arith)
@@ -35,8 +35,8 @@ below (negsuc (suc n)) f t =
 pub record Above (s : ℤ) : Type 0 where
   pub signed : T (nonNeg s)
   pub fits : Fits w64 (natAbs s)
-  pub kept : natAbs s ≡ lift s
-  pub none : drop s ≡ 0
+  pub kept : natAbs s ≡ positivePart s
+  pub none : negativePart s ≡ 0
 
 pub above : (s : ℤ) → SFits w64 s → ltZ s (pos 0) ≡ false → Above s
 above (pos n) f t = record { signed = tt; fits = record { fits = omega arith }; kept = refl; none = refl }

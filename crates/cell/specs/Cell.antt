@@ -1,6 +1,6 @@
 -- The limits of a cell's numbers, and its slack as a difference of two naturals.
 use Prim.Native.Nat.{ℕ, _+_, _*_, _≤_, _<_, _^_}
-use Rattle.model.specs.Integers.{lift, drop}
+use Rattle.model.specs.Integers.{positivePart, negativePart}
 use Rattle.cell.specs.declared.Cell.{Cell}
 
 -- within these limits no sum wraps, whatever 32-bit pressures the neighbours have
@@ -8,11 +8,11 @@ pub record Bounded (c : Cell) : Type 0 where
   pub some : 0 < c .diagonal
   pub diagonal : c .diagonal ≤ 2 ^ 28
   pub pull : c .pull ≤ 2 ^ 60
-  pub lift : lift (c .source) ≤ 2 ^ 60
-  pub drop : drop (c .source) ≤ 2 ^ 60
+  pub positive : positivePart (c .source) ≤ 2 ^ 60
+  pub negative : negativePart (c .source) ≤ 2 ^ 60
 
-unfoldable pub bearingOf : Cell → ℕ → ℕ
-bearingOf c pressure = c .diagonal * pressure + lift (c .source)
+unfoldable pub positiveTerms : Cell → ℕ → ℕ
+positiveTerms c pressure = c .diagonal * pressure + positivePart (c .source)
 
-unfoldable pub loadOf : Cell → ℕ
-loadOf c = c .pull + drop (c .source)
+unfoldable pub negativeTerms : Cell → ℕ
+negativeTerms c = c .pull + negativePart (c .source)

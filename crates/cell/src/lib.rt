@@ -6,14 +6,14 @@
 ghost use mathlib.Core.Path.{_≡_};
 ghost use Prim.Native.Nat.{_≤_, _*_, _^_, max};
 ghost use lib.IntN.{subℕ};
-ghost use Rattle.model.specs.Integers.{lift as liftOf, drop as dropOf};
+ghost use Rattle.model.specs.Integers.{positivePart, negativePart};
 ghost use Rattle.model.specs.Film.{slackOf};
 ghost use Rattle.model.specs.Relaxation.{requiredFor};
-ghost use Rattle.cell.specs.Cell.{Bounded, bearingOf, loadOf};
+ghost use Rattle.cell.specs.Cell.{Bounded, positiveTerms, negativeTerms};
 
 // How far a signed number is above 0.
-pub fn lift(source: i64) -> u64
-    ensures { λ r. ⌜ r ≡ liftOf source ⌝ }
+pub fn positive_part(source: i64) -> u64
+    ensures { λ r. ⌜ r ≡ positivePart source ⌝ }
 {
     if source < 0 {
         return 0;
@@ -22,8 +22,8 @@ pub fn lift(source: i64) -> u64
 }
 
 // How far a signed number is below 0.
-pub fn drop(source: i64) -> u64
-    ensures { λ r. ⌜ r ≡ dropOf source ⌝ }
+pub fn negative_part(source: i64) -> u64
+    ensures { λ r. ⌜ r ≡ negativePart source ⌝ }
 {
     if source < 0 {
         return ((-(source + 1)) as u64) + 1;
@@ -63,19 +63,19 @@ pub struct Cell {
 }
 
 impl Cell {
-    // What bears the cell's load at a pressure, and the load: the slack is their difference.
-    fn bearing(self, pressure: u32) -> u64
+    // The positive terms of the cell's slack at a pressure, and the negative ones: the slack is their difference.
+    fn positive_terms(self, pressure: u32) -> u64
         requires { ⌜ Bounded self ⌝ }
-        ensures { λ r. ⌜ r ≡ bearingOf self pressure ⌝ }
+        ensures { λ r. ⌜ r ≡ positiveTerms self pressure ⌝ }
     {
-        product(self.diagonal, pressure) + lift(self.source)
+        product(self.diagonal, pressure) + positive_part(self.source)
     }
 
-    fn load(self) -> u64
+    fn negative_terms(self) -> u64
         requires { ⌜ Bounded self ⌝ }
-        ensures { λ r. ⌜ r ≡ loadOf self ⌝ }
+        ensures { λ r. ⌜ r ≡ negativeTerms self ⌝ }
     {
-        self.pull + drop(self.source)
+        self.pull + negative_part(self.source)
     }
 
     // The slack at a pressure.
@@ -83,7 +83,7 @@ impl Cell {
         requires { ⌜ Bounded self ⌝ }
         ensures { λ r. ⌜ r ≡ slackOf (self .diagonal) (self .pull) (self .source) pressure ⌝ }
     {
-        difference(self.bearing(pressure), self.load())
+        difference(self.positive_terms(pressure), self.negative_terms())
     }
 
     // The least whole pressure, not below 0, at which the slack is not negative.
@@ -91,13 +91,13 @@ impl Cell {
         requires { ⌜ Bounded self ⌝ }
         ensures { λ r. ⌜ r ≡ requiredFor (self .diagonal) (self .pull) (self .source) ⌝ }
     {
-        let least = self.bearing(0);
-        let load = self.load();
+        let positive = self.positive_terms(0);
+        let negative = self.negative_terms();
         let diagonal = self.diagonal as u64;
-        if load <= least {
+        if negative <= positive {
             return 0;
         }
-        (load - least + (diagonal - 1)) / diagonal
+        (negative - positive + (diagonal - 1)) / diagonal
     }
 
     // The pressure that a relaxation would lift the cell to, the ceiling left aside: its own if it is quiet.
@@ -106,7 +106,7 @@ impl Cell {
         requires { ⌜ Bounded self ⌝ }
         ensures { λ r. ⌜ r ≡ max pressure (requiredFor (self .diagonal) (self .pull) (self .source)) ⌝ }
     {
-        if self.load() <= self.bearing(pressure) {
+        if self.negative_terms() <= self.positive_terms(pressure) {
             return pressure as u64;
         }
         self.required()

@@ -12,7 +12,8 @@ use lib.Seq.{take-all}
 use Rattle.model.specs.Gauge.{Gauge}
 use Rattle.model.specs.Refusals.{Check, pass, fail}
 use Rattle.model.specs.File.{cells, gaugeCheck}
-use Rattle.model.specs.FileCalls.{gaugeOf, gaugeFits, WriteAnswer, written, formCheck, Forms}
+use Rattle.model.specs.Result.{answered, refused}
+use Rattle.model.specs.FileCalls.{gaugeOf, gaugeFits, formCheck, Forms}
 use Rattle.model.specs.declared.Head.{Head}
 use Rattle.model.proofs.Checks.{and-parts}
 use Rattle.forming.specs.Cell.{Ringed, Room, Forming}
@@ -23,7 +24,7 @@ filled : {A : Type 0} (n : ℕ) (after : List A) {new : List A} → length after
 filled n after e t = sym (take-all n after (omega arith)) ∙ t
 
 -- as many places as there were
-pub record Kept (diagonals rights ups : List ℕ) (sources : List ℤ) (diagonals′ rights′ ups′ : List ℕ) (sources′ : List ℤ) : Type 0 where
+pub record Unchanged (diagonals rights ups : List ℕ) (sources : List ℤ) (diagonals′ rights′ ups′ : List ℕ) (sources′ : List ℤ) : Type 0 where
   pub diagonals-kept : length diagonals′ ≡ length diagonals
   pub rights-kept : length rights′ ≡ length rights
   pub ups-kept : length ups′ ≡ length ups
@@ -88,8 +89,8 @@ module _ (h : Head) (weights thicknesses : List ℕ) (wedge : ℤ) (diagonals ri
 
     -- all is written, ..
     pub form-written : {diagonals′ rights′ ups′ : List ℕ} {sources′ : List ℤ} → Forming (gaugeOf h [] thicknesses wedge) diagonals′ rights′ ups′ sources′
-        → Kept diagonals rights ups sources diagonals′ rights′ ups′ sources′
-        → Forms g diagonals rights ups sources written diagonals′ rights′ ups′ sources′
+        → Unchanged diagonals rights ups sources diagonals′ rights′ ups′ sources′
+        → Forms g diagonals rights ups sources (answered tt) diagonals′ rights′ ups′ sources′
     form-written {diagonals′} {rights′} {ups′} {sources′} b k =
         let l = lengths in
         let n = cells (g .rows) (g .columns) in
@@ -103,5 +104,5 @@ module _ (h : Head) (weights thicknesses : List ℕ) (wedge : ℤ) (diagonals ri
 
   -- .. or nothing
   pub form-refused : {number place : ℕ} → formCheck g diagonals rights ups sources ≡ fail number place
-      → Forms g diagonals rights ups sources (WriteAnswer.refused number place) diagonals rights ups sources
+      → Forms g diagonals rights ups sources (refused number place) diagonals rights ups sources
   form-refused e = record { answer-is = rw e; diagonals-are = rw e; rights-are = rw e; ups-are = rw e; sources-are = rw e }

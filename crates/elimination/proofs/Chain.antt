@@ -14,7 +14,7 @@ use Rattle.model.specs.Integers.{negative}
 use Rattle.model.specs.Film.{Film, filmOf, sizeOf, beside, across, neighbours, diagonalAt, rightAt, sourceAt, pullOf, slackOf}
 use Rattle.model.specs.Estimate as paper
 use Rattle.cell.specs.declared.Cell.{Cell}
-use Rattle.grid.specs.Pull.{backOf, aheadOf, Product, cellBy, Loaded, Loads}
+use Rattle.grid.specs.Pull.{backOf, aheadOf, Product, cellBy, Aligned, IsCell}
 use Rattle.grid.proofs.Neighbours.{across-is}
 use Rattle.grid.proofs.Limited.{limited-edges, limited-loaded, cell-is}
 use Rattle.elimination.specs.Line.{Held, stepAt}
@@ -28,7 +28,7 @@ module _ {head : Head} {diagonals rights ups : List ℕ} {sources : List ℤ} {p
   abbrev bare : Film
   bare = filmOf head [] diagonals rights ups sources
 
-  pub held-loaded : Loaded (head .columns) diagonals rights ups sources p
+  pub held-loaded : Aligned (head .columns) diagonals rights ups sources p
   held-loaded = limited-loaded (H .accepted .limited) (H .bounded .len)
 
   module _ {i : ℕ} (b : i < length p) where
@@ -49,7 +49,7 @@ module _ {head : Head} {diagonals rights ups : List ℕ} {sources : List ℤ} {p
             across-low bare i p (held-loaded .up) (λ k. omega (arith, H .bounded .low k, H .accepted .limited .sized .ceiling-low)),
           )
 
-    module _ {cell : Cell} (C : Loads cell (cellBy (head .columns) diagonals rights ups sources p i)) where
+    module _ {cell : Cell} (C : IsCell cell (cellBy (head .columns) diagonals rights ups sources p i)) where
       cell-found : cell ≡ record { diagonal = diagonalAt bare i; pull = pullOf bare p i; source = sourceAt bare i }
       unfolding neighbours beside across
       cell-found = C .is ∙ cell-is (H .accepted .limited) p i inside-grid
@@ -61,7 +61,7 @@ module _ {head : Head} {diagonals rights ups : List ℕ} {sources : List ℤ} {p
       pub step-is : {t : ℕ} {active : Bool} {m h k : Float} {e : paper.Elimination} (last : paper.Elimination)
           → t ≡ pull (across bare i) (λ j. getD p j 0)
           → active ≡ (ltb 0 (getD p i 0) || negative (slackOf (cell .diagonal) (cell .pull) (cell .source) (getD p i 0)))
-          → m ≡ paper.whole (cell .diagonal) → h ≡ ofInt binary64 (negℤ (cell .source) +ℤ pos t)
-          → k ≡ paper.whole (rightAt bare (i - 1))
+          → m ≡ paper.floatOf (cell .diagonal) → h ≡ ofInt binary64 (negℤ (cell .source) +ℤ pos t)
+          → k ≡ paper.floatOf (rightAt bare (i - 1))
           → e ≡ paper.eliminate active m h k last → e ≡ stepAt bare p i last
       step-is last t a m h k e = rw (e, a, m, h, k, t, cell-found)

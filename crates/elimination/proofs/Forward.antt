@@ -13,7 +13,7 @@ use lib.ListN.{length, getD, set, length-set}
 use lib.Seq.{getD-set-same, getD-set-other}
 use Rattle.model.specs.declared.Head.{Head}
 use Rattle.model.specs.Film.{Film, filmOf, beside, across, neighbours}
-use Rattle.model.specs.Estimate.{whole, idle, pivot, broken, pivotIf, eliminate, isBroken, eliminated}
+use Rattle.model.specs.Estimate.{floatOf, idle, pivot, broken, pivotIf, eliminate, isBroken, eliminated}
 use Rattle.model.specs.Estimate as paper
 use Rattle.elimination.specs.Line.{eliminationOf, keptOf, recall, stepAt, Kept, Eliminated}
 use Rattle.elimination.specs.declared.Elimination.{Elimination}
@@ -119,13 +119,13 @@ unbroken-before false m b k broken h = absurd (true≢false h)
 -- a pivot is above 0
 abbrev sound : paper.Elimination → Bool
 sound idle = true
-sound (pivot g h) = lt (whole 0) g
+sound (pivot g h) = lt (floatOf 0) g
 sound broken = true
 
 sound-pivot : (g h : Float) → sound (pivotIf g h) ≡ true
-sound-pivot g h = go (lt (whole 0) g) refl
+sound-pivot g h = go (lt (floatOf 0) g) refl
   where
-    go : (t : Bool) → lt (whole 0) g ≡ t → sound (cond t (pivot g h) broken) ≡ true
+    go : (t : Bool) → lt (floatOf 0) g ≡ t → sound (cond t (pivot g h) broken) ≡ true
     go true e = e
     go false e = refl
 

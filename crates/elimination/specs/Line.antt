@@ -24,12 +24,12 @@ eliminationOf steps.Broken = paper.broken
 -- What is kept of a step for the way back: pivot and right side, and 0 and 0 where there are none. A pivot is above 0, so that a
 -- kept pivot of 0 marks a cell that is not active.
 abbrev pub keptOf : paper.Elimination → Preceding
-keptOf paper.idle = record { g = paper.whole 0; h = paper.whole 0 }
+keptOf paper.idle = record { g = paper.floatOf 0; h = paper.floatOf 0 }
 keptOf (paper.pivot g h) = record { g = g; h = h }
-keptOf paper.broken = record { g = paper.whole 0; h = paper.whole 0 }
+keptOf paper.broken = record { g = paper.floatOf 0; h = paper.floatOf 0 }
 
 abbrev pub recall : Float → Float → paper.Elimination
-recall g h = cond (lt (paper.whole 0) g) (paper.pivot g h) paper.idle
+recall g h = cond (lt (paper.floatOf 0) g) (paper.pivot g h) paper.idle
 
 -- coefficients of an accepted film, whatever its weights, and a field of it
 pub record Held (head : Head) (diagonals rights ups : List ℕ) (sources : List ℤ) (p : List ℕ) : Type 0 where
@@ -40,8 +40,8 @@ pub record Held (head : Head) (diagonals rights ups : List ℕ) (sources : List 
 -- what the elimination step in cell i yields, from what the cell before it yielded
 abbrev pub stepAt : Film → List ℕ → ℕ → paper.Elimination → paper.Elimination
 stepAt f p i e =
-    paper.eliminate (paper.active f p i) (paper.whole (diagonalAt f i)) (ofInt binary64 (paper.rightSide f p i))
-    (paper.whole (rightAt f (i - 1)))
+    paper.eliminate (paper.active f p i) (paper.floatOf (diagonalAt f i)) (ofInt binary64 (paper.rightSide f p i))
+    (paper.floatOf (rightAt f (i - 1)))
     e
 
 -- the first n steps along a line are kept

@@ -43,7 +43,10 @@ fn right_side(source: i64, across: u64) -> i64
     requires { ⌜ (natAbs source ≤ 2 ^ 52) × (across ≤ 2 ^ 52) ⌝ }
     ensures { λ r. ⌜ r ≡ negℤ source +ℤ pos across ⌝ }
 {
-    cell::difference(across + cell::drop(source), cell::lift(source))
+    cell::difference(
+        across + cell::negative_part(source),
+        cell::positive_part(source),
+    )
 }
 
 // Pivot and right side; broken, where the pivot is not above 0.

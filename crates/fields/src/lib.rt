@@ -42,10 +42,10 @@ fn header_test(file: &[u8], at: usize, tag: u8, size: usize) -> Tested
     }
     let from = at + 1;
     let length = words::numbers::first_word(&file[from..]) as usize;
-    let stray = refusals::fail_if(file[at] != tag, Fault::Unexpected, at);
-    let misfit = refusals::fail_if(length != size, Fault::WrongLength, at);
+    let unexpected = refusals::fail_if(file[at] != tag, Fault::Unexpected, at);
+    let wrong_length = refusals::fail_if(length != size, Fault::WrongLength, at);
     let body = refusals::fail_if(end < at + 3 + size, Fault::Truncated, end);
-    refusals::or_else(stray, refusals::or_else(misfit, body))
+    refusals::or_else(unexpected, refusals::or_else(wrong_length, body))
 }
 
 // Field 01 at `at`, where that tag should stand: header and, where that passes, values.

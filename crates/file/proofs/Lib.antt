@@ -1,4 +1,3 @@
 -- Laws that the proofs of the functions share.
 pub mod Writing
 pub mod Reading
-pub mod Inverse

@@ -8,6 +8,7 @@ use lib.Dec.{eqb}
 use lib.ListN.{length}
 use Rattle.model.specs.Refusals.{Check, pass, fail, _orElse_, failIf}
 use Rattle.model.specs.File.{gauged, cellsIn, ringIn, gaugeIn, gaugeDominance, fieldsCheck, fileCheck}
+use Rattle.model.specs.Result.{Answer, refused}
 use Rattle.model.specs.FileCalls.{LoadAnswer, loadCheck, Loads}
 use Rattle.model.proofs.Checks.{and-parts, orElse-assoc, orElse-parts, failIf-pass}
 use Rattle.reading.specs.Reading.{LoadsBy}
@@ -37,7 +38,7 @@ opening-passes bytes weights thicknesses e =
     record { weights-len = eqb-true _ _ (b .0); thicknesses-len = eqb-true _ _ (b .1); fields = a .1 }
 
 module _ (bytes weights thicknesses : List ℕ) where
-  pub load-opened : {answer : LoadAnswer} {weights′ thicknesses′ : List ℕ} → opening bytes weights thicknesses ≡ pass
+  pub load-opened : {answer : Answer LoadAnswer} {weights′ thicknesses′ : List ℕ} → opening bytes weights thicknesses ≡ pass
       → LoadsBy (gaugeDominance (gaugeIn bytes)) (gaugeIn bytes) weights thicknesses answer weights′ thicknesses′
       → Loads bytes weights thicknesses answer weights′ thicknesses′
   load-opened e L =
@@ -45,7 +46,7 @@ module _ (bytes weights thicknesses : List ℕ) where
       record { answer-is = rw k (L .answer-is); weights-are = rw k (L .weights-are); thicknesses-are = rw k (L .thicknesses-are) }
 
   pub load-refused : {number place : ℕ} → opening bytes weights thicknesses ≡ fail number place
-      → Loads bytes weights thicknesses (LoadAnswer.refused number place) weights thicknesses
+      → Loads bytes weights thicknesses (refused number place) weights thicknesses
   load-refused e =
       let k = load-parts bytes weights thicknesses ∙ ap (λ x. x orElse gaugeDominance (gaugeIn bytes)) e in
       record { answer-is = rw k; weights-are = rw k; thicknesses-are = rw k }

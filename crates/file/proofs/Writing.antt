@@ -9,13 +9,13 @@ use lib.ListN.{length}
 use Rattle.model.specs.Refusals.{pass, fail, _orElse_, failIf}
 use Rattle.model.specs.Gauge.{Gauge}
 use Rattle.model.specs.Checks.{shapeCheck}
-use Rattle.model.specs.Result.{Gives}
+use Rattle.model.specs.Result.{answered, refused, Gives}
 use Rattle.model.specs.File.{cells, ringed, rowsOffset, columnsOffset, endOffset, fileOf, gaugeCheck}
-use Rattle.model.specs.FileCalls.{gaugeFits, WriteAnswer, written, saveCheck, saveCall}
+use Rattle.model.specs.FileCalls.{gaugeFits, saveCheck, saveCall}
 use Rattle.model.proofs.Checks.{and-parts, orElse-parts, failIf-pass}
 use Rattle.model.proofs.File.{gauge-shape}
 use Rattle.refusals.proofs.Chain.{orElse-given}
-use Rattle.writing.specs.Ready.{fileLength, Ready}
+use Rattle.writing.specs.Writable.{fileLength, Writable}
 use Rattle.writing.proofs.Film.{length-known}
 
 module _ (g : Gauge) (out : List ℕ) where
@@ -26,7 +26,7 @@ module _ (g : Gauge) (out : List ℕ) where
       orElse-given (shapeCheck (g .rows) rowsOffset (g .columns) columnsOffset)
       (λ e. let s = gauge-shape g e in rw (length-known (g .rows) (g .columns) (s .rows-low) (s .columns-low)))
 
-  pub save-ready : saveCheck g out ≡ pass → Ready g out
+  pub save-ready : saveCheck g out ≡ pass → Writable g out
   unfolding gaugeCheck
   save-ready e =
       let a = orElse-parts (shapeCheck (g .rows) rowsOffset (g .columns) columnsOffset) _ e in
@@ -43,8 +43,8 @@ module _ (g : Gauge) (out : List ℕ) where
         out-len = eqb-true _ _ (c .1);
       }
 
-  pub save-passed : {exit : List ℕ} → saveCheck g out ≡ pass → exit ≡ fileOf g → Gives (saveCall g out) written exit
+  pub save-passed : {exit : List ℕ} → saveCheck g out ≡ pass → exit ≡ fileOf g → Gives (saveCall g out) (answered tt) exit
   save-passed e f = record { answer-is = rw e; lent-is = rw e f }
 
-  pub save-refused : {number place : ℕ} → saveCheck g out ≡ fail number place → Gives (saveCall g out) (WriteAnswer.refused number place) out
+  pub save-refused : {number place : ℕ} → saveCheck g out ≡ fail number place → Gives (saveCall g out) (refused number place) out
   save-refused e = record { answer-is = rw e; lent-is = rw e }

@@ -4,39 +4,37 @@ use mathlib.Core.List.{List}
 use Prim.Native.Nat.{ℕ}
 use lib.IntN.{ℤ}
 use Rattle.model.specs.Gauge.{Gauge}
-use Rattle.model.specs.Result.{Result, Gives}
-use Rattle.model.specs.Relaxation.{SlackAnswer}
-use Rattle.model.specs.Margin.{MarginAnswer}
-use Rattle.model.specs.FileCalls.{WriteAnswer, LoadAnswer, Loads, Forms}
+use Rattle.model.specs.Result.{Answer, foundBy, Result, Gives}
+use Rattle.model.specs.FileCalls.{LoadAnswer, Loads, Forms}
 use Rattle.told.specs.Refused.{Told}
 use Rattle.tell.specs.Numbers.{SlackTold, MarginTold}
-use Rattle.tell_files.specs.Files.{LoadTold, writeTest}
+use Rattle.tell_files.specs.Files.{LoadTold}
 use Rattle.film_c.specs.Lent.{Leaves, ReadTold, FormTold}
 
-pub slack-told : {a b : SlackAnswer} {z z′ : ℤ} {p n p′ : ℕ} → a ≡ b → SlackTold a z p n z′ p′ → SlackTold b z p n z′ p′
-slack-told {z = z} {z′ = z′} {p = p} {n = n} {p′ = p′} e told = subst (λ (x : SlackAnswer). SlackTold x z p n z′ p′) e told
+pub slack-told : {a b : Answer ℤ} {z z′ : ℤ} {p n p′ : ℕ} → a ≡ b → SlackTold a z p n z′ p′ → SlackTold b z p n z′ p′
+slack-told {z = z} {z′ = z′} {p = p} {n = n} {p′ = p′} e told = subst (λ (x : Answer ℤ). SlackTold x z p n z′ p′) e told
 
-pub margin-told : {a b : MarginAnswer} {m m′ p n p′ : ℕ} → a ≡ b → MarginTold a m p n m′ p′ → MarginTold b m p n m′ p′
-margin-told {m = m} {m′ = m′} {p = p} {n = n} {p′ = p′} e told = subst (λ (x : MarginAnswer). MarginTold x m p n m′ p′) e told
+pub margin-told : {a b : Answer ℕ} {m m′ p n p′ : ℕ} → a ≡ b → MarginTold a m p n m′ p′ → MarginTold b m p n m′ p′
+margin-told {m = m} {m′ = m′} {p = p} {n = n} {p′ = p′} e told = subst (λ (x : Answer ℕ). MarginTold x m p n m′ p′) e told
 
 pub leaves : {A : Type 0} {call : Result A} {a : A} {exit : List ℕ} {Tells : A → Type 0} → Gives call a exit → Tells a → Leaves call Tells exit
 leaves {Tells = Tells} gave told = record { told = subst Tells (gave .answer-is) told; lent-is = gave .lent-is }
 
 pub read-told :
-    {bytes w t w′ t′ h h′ : List ℕ} {a : LoadAnswer} {z z′ : ℤ} {p n p′ : ℕ} →
+    {bytes w t w′ t′ h h′ : List ℕ} {a : Answer LoadAnswer} {z z′ : ℤ} {p n p′ : ℕ} →
     Loads bytes w t a w′ t′ → LoadTold a h z p n h′ z′ p′ → ReadTold bytes w t h z p n w′ t′ h′ z′ p′
 read-told {h = h} {h′ = h′} {z = z} {z′ = z′} {p = p} {n = n} {p′ = p′} loads told =
     record {
-      told = subst (λ (x : LoadAnswer). LoadTold x h z p n h′ z′ p′) (loads .answer-is) told;
+      told = subst (λ (x : Answer LoadAnswer). LoadTold x h z p n h′ z′ p′) (loads .answer-is) told;
       loads = record { answer-is = refl; weights-are = loads .weights-are; thicknesses-are = loads .thicknesses-are };
     }
 
 pub form-told :
-    {g : Gauge} {d r u d′ r′ u′ : List ℕ} {s s′ : List ℤ} {a : WriteAnswer} {p n p′ : ℕ} →
-    Forms g d r u s a d′ r′ u′ s′ → Told (writeTest a) p n p′ → FormTold g d r u s p n d′ r′ u′ s′ p′
+    {g : Gauge} {d r u d′ r′ u′ : List ℕ} {s s′ : List ℤ} {a : Answer (Unit {0})} {p n p′ : ℕ} →
+    Forms g d r u s a d′ r′ u′ s′ → Told (foundBy a) p n p′ → FormTold g d r u s p n d′ r′ u′ s′ p′
 form-told {p = p} {n = n} {p′ = p′} forms told =
     record {
-      told = subst (λ (x : WriteAnswer). Told (writeTest x) p n p′) (forms .answer-is) told;
+      told = subst (λ (x : Answer (Unit {0})). Told (foundBy x) p n p′) (forms .answer-is) told;
       forms = record {
         answer-is = refl;
         diagonals-are = forms .diagonals-are;

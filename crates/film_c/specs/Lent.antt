@@ -5,16 +5,16 @@ use Prim.Native.Nat.{ℕ}
 use lib.IntN.{ℤ}
 use lib.ListN.{getD}
 use Rattle.model.specs.Gauge.{Gauge}
-use Rattle.model.specs.Result.{Result}
+use Rattle.model.specs.Result.{Answer, answerBy, foundBy, Result}
 use Rattle.model.specs.File.{gaugeIn}
-use Rattle.model.specs.FileCalls.{WriteAnswer, LoadAnswer, Forms, Loads, writeAnswer, formCheck, loadAnswer, loadCheck}
+use Rattle.model.specs.FileCalls.{LoadAnswer, Forms, Loads, formCheck, loadAnswer, loadCheck}
 use Rattle.model.specs.declared.Head.{Head}
 use Rattle.told.specs.Refused.{Told}
-use Rattle.tell_files.specs.Files.{LoadTold, writeTest}
+use Rattle.tell_files.specs.Files.{LoadTold}
 
 -- a head as it is lent: rows, columns, ceiling
-abbrev pub headOf : List ℕ → Head
-headOf head = record { rows = getD head 0 0; columns = getD head 1 0; ceiling = getD head 2 0 }
+abbrev pub lentHead : List ℕ → Head
+lentHead head = record { rows = getD head 0 0; columns = getD head 1 0; ceiling = getD head 2 0 }
 
 -- a call with one lent slice told its answer, and left just this in the slice
 pub record Leaves {A : Type 0} (call : Result A) (Tells : A → Type 0) (exit : List ℕ) : Type 0 where
@@ -22,8 +22,8 @@ pub record Leaves {A : Type 0} (call : Result A) (Tells : A → Type 0) (exit : 
   pub lent-is : exit ≡ call .lent
 
 -- what `Loads` says that the reader answers
-abbrev pub readAnswer : List ℕ → List ℕ → List ℕ → LoadAnswer
-readAnswer bytes weights thicknesses = loadAnswer (loadCheck bytes weights thicknesses) (gaugeIn bytes)
+abbrev pub readAnswer : List ℕ → List ℕ → List ℕ → Answer LoadAnswer
+readAnswer bytes weights thicknesses = answerBy (loadCheck bytes weights thicknesses) (loadAnswer (gaugeIn bytes))
 
 pub record ReadTold (bytes weights thicknesses head : List ℕ) (wedge : ℤ) (place number : ℕ) (weights′ thicknesses′ head′ : List ℕ) (wedge′ : ℤ) (place′ : ℕ)
     : Type 0 where
@@ -31,10 +31,10 @@ pub record ReadTold (bytes weights thicknesses head : List ℕ) (wedge : ℤ) (p
   pub loads : Loads bytes weights thicknesses (readAnswer bytes weights thicknesses) weights′ thicknesses′
 
 -- what `Forms` says that the forming call answers
-abbrev pub formAnswer : Gauge → List ℕ → List ℕ → List ℕ → List ℤ → WriteAnswer
-formAnswer g diagonals rights ups sources = writeAnswer (formCheck g diagonals rights ups sources)
+abbrev pub formAnswer : Gauge → List ℕ → List ℕ → List ℕ → List ℤ → Answer (Unit {0})
+formAnswer g diagonals rights ups sources = answerBy (formCheck g diagonals rights ups sources) tt
 
 pub record FormTold (g : Gauge) (diagonals rights ups : List ℕ) (sources : List ℤ) (place number : ℕ) (diagonals′ rights′ ups′ : List ℕ) (sources′ : List ℤ) (place′ : ℕ)
     : Type 0 where
-  pub told : Told (writeTest (formAnswer g diagonals rights ups sources)) place number place′
+  pub told : Told (foundBy (formAnswer g diagonals rights ups sources)) place number place′
   pub forms : Forms g diagonals rights ups sources (formAnswer g diagonals rights ups sources) diagonals′ rights′ ups′ sources′

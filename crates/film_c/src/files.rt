@@ -1,9 +1,10 @@
 // The calls on film files and on a film's own numbers.
+ghost use Rattle.model.specs.Result.{foundBy};
 ghost use Rattle.model.specs.FileCalls.{gaugeOf, saveCall};
 ghost use Rattle.model.specs.ReportCall.{reportCall};
 ghost use Rattle.told.specs.Refused.{Told};
-ghost use Rattle.tell_files.specs.Files.{ReportTold, writeTest};
-ghost use Rattle.film_c.specs.Lent.{headOf, Leaves, ReadTold, FormTold};
+ghost use Rattle.tell_files.specs.Files.{ReportTold};
+ghost use Rattle.film_c.specs.Lent.{lentHead, Leaves, ReadTold, FormTold};
 
 // Writes a file's report at the start of out, and tells its length.
 #[no_mangle]
@@ -45,7 +46,7 @@ pub extern "C" fn film_write(
     out: &mut [u8],
     place: &mut usize,
 ) -> u32
-    ensures { λ r. ⌜ Leaves (saveCall (gaugeOf (headOf (now (head .entry))) (now (weights .entry)) (now (thicknesses .entry)) wedge) (now (out .entry))) (λ a. Told (writeTest a) (now (place .entry)) r (now (place .exit))) (now (out .exit)) ⌝ }
+    ensures { λ r. ⌜ Leaves (saveCall (gaugeOf (lentHead (now (head .entry))) (now (weights .entry)) (now (thicknesses .entry)) wedge) (now (out .entry))) (λ a. Told (foundBy a) (now (place .entry)) r (now (place .exit))) (now (out .exit)) ⌝ }
 {
     let head = crate::head_of(head);
     let answer = file::write(head, weights, thicknesses, wedge, out);
@@ -65,7 +66,7 @@ pub extern "C" fn film_form(
     sources: &mut [i64],
     place: &mut usize,
 ) -> u32
-    ensures { λ r. ⌜ FormTold (gaugeOf (headOf (now (head .entry))) (now (weights .entry)) (now (thicknesses .entry)) wedge) (now (diagonals .entry)) (now (rights .entry)) (now (ups .entry)) (now (sources .entry)) (now (place .entry)) r (now (diagonals .exit)) (now (rights .exit)) (now (ups .exit)) (now (sources .exit)) (now (place .exit)) ⌝ }
+    ensures { λ r. ⌜ FormTold (gaugeOf (lentHead (now (head .entry))) (now (weights .entry)) (now (thicknesses .entry)) wedge) (now (diagonals .entry)) (now (rights .entry)) (now (ups .entry)) (now (sources .entry)) (now (place .entry)) r (now (diagonals .exit)) (now (rights .exit)) (now (ups .exit)) (now (sources .exit)) (now (place .exit)) ⌝ }
 {
     let head = crate::head_of(head);
     let answer = coefficients::form(

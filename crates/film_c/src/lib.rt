@@ -9,7 +9,7 @@
 // (slackCall, runCall, Loads, ..), told as specs/ of crates `tell`, `tell_files` and `told` say. As the calls themselves, they ask nothing of
 // their caller.
 ghost use mathlib.Core.Path.{_≡_};
-ghost use Rattle.film_c.specs.Lent.{headOf};
+ghost use Rattle.film_c.specs.Lent.{lentHead};
 use model::Head;
 
 mod numbers; // numbers.rt: the calls on a film as coefficients
@@ -17,7 +17,7 @@ mod files; // files.rt: the calls on film files and on a film's own numbers
 
 // The head that a caller lends: rows, columns, ceiling. In C it is `film_head`, a struct of these numbers alone, which is laid out as the array.
 fn head_of(head: &[u32; 3]) -> Head
-    ensures { λ r. ⌜ r ≡ headOf (now (head .entry)) ⌝ }
+    ensures { λ r. ⌜ r ≡ lentHead (now (head .entry)) ⌝ }
 {
     Head {
         rows: head[0],

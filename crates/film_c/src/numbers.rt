@@ -1,4 +1,5 @@
 // The calls on a film as coefficients.
+ghost use Rattle.model.specs.Result.{foundBy};
 ghost use Rattle.model.specs.Film.{filmOf};
 ghost use Rattle.model.specs.Relaxation.{relaxCall, slackCall};
 ghost use Rattle.model.specs.Margin.{marginCall};
@@ -6,8 +7,8 @@ ghost use Rattle.model.specs.Proposal.{proposeCall};
 ghost use Rattle.model.specs.Estimate.{estimateCall};
 ghost use Rattle.model.specs.Run.{runCall};
 ghost use Rattle.told.specs.Refused.{Told};
-ghost use Rattle.tell.specs.Numbers.{SlackTold, MarginTold, RelaxTold, ProposeTold, estimateTest, RunTold};
-ghost use Rattle.film_c.specs.Lent.{headOf, Leaves};
+ghost use Rattle.tell.specs.Numbers.{SlackTold, MarginTold, RelaxTold, ProposeTold, RunTold};
+ghost use Rattle.film_c.specs.Lent.{lentHead, Leaves};
 
 // Tells the slack of one cell.
 #[no_mangle]
@@ -23,7 +24,7 @@ pub extern "C" fn film_slack(
     slack: &mut i64,
     place: &mut usize,
 ) -> u32
-    ensures { λ r. ⌜ SlackTold (slackCall (filmOf (headOf (now (head .entry))) (now (weights .entry)) (now (diagonals .entry)) (now (rights .entry)) (now (ups .entry)) (now (sources .entry))) (now (field .entry)) at) (now (slack .entry)) (now (place .entry)) r (now (slack .exit)) (now (place .exit)) ⌝ }
+    ensures { λ r. ⌜ SlackTold (slackCall (filmOf (lentHead (now (head .entry))) (now (weights .entry)) (now (diagonals .entry)) (now (rights .entry)) (now (ups .entry)) (now (sources .entry))) (now (field .entry)) at) (now (slack .entry)) (now (place .entry)) r (now (slack .exit)) (now (place .exit)) ⌝ }
 {
     let head = crate::head_of(head);
     let answer = problem::slack(head, weights, diagonals, rights, ups, sources, field, at);
@@ -42,7 +43,7 @@ pub extern "C" fn film_margin(
     margin: &mut u32,
     place: &mut usize,
 ) -> u32
-    ensures { λ r. ⌜ MarginTold (marginCall (filmOf (headOf (now (head .entry))) (now (weights .entry)) (now (diagonals .entry)) (now (rights .entry)) (now (ups .entry)) (now (sources .entry)))) (now (margin .entry)) (now (place .entry)) r (now (margin .exit)) (now (place .exit)) ⌝ }
+    ensures { λ r. ⌜ MarginTold (marginCall (filmOf (lentHead (now (head .entry))) (now (weights .entry)) (now (diagonals .entry)) (now (rights .entry)) (now (ups .entry)) (now (sources .entry)))) (now (margin .entry)) (now (place .entry)) r (now (margin .exit)) (now (place .exit)) ⌝ }
 {
     let head = crate::head_of(head);
     let answer = line::margin(head, weights, diagonals, rights, ups, sources);
@@ -66,7 +67,7 @@ pub extern "C" fn film_run(
     cell: &mut usize,
     place: &mut usize,
 ) -> u32
-    ensures { λ r. ⌜ Leaves (runCall (filmOf (headOf (now (head .entry))) (now (weights .entry)) (now (diagonals .entry)) (now (rights .entry)) (now (ups .entry)) (now (sources .entry))) budget order proposals (now (field .entry))) (λ a. RunTold a (now (result .entry)) (now (cell .entry)) (now (place .entry)) r (now (result .exit)) (now (cell .exit)) (now (place .exit))) (now (field .exit)) ⌝ }
+    ensures { λ r. ⌜ Leaves (runCall (filmOf (lentHead (now (head .entry))) (now (weights .entry)) (now (diagonals .entry)) (now (rights .entry)) (now (ups .entry)) (now (sources .entry))) budget order proposals (now (field .entry))) (λ a. RunTold a (now (result .entry)) (now (cell .entry)) (now (place .entry)) r (now (result .exit)) (now (cell .exit)) (now (place .exit))) (now (field .exit)) ⌝ }
 {
     let head = crate::head_of(head);
     let answer = run::run(
@@ -98,7 +99,7 @@ pub extern "C" fn film_relax(
     result: &mut [u32; 2],
     place: &mut usize,
 ) -> u32
-    ensures { λ r. ⌜ Leaves (relaxCall (filmOf (headOf (now (head .entry))) (now (weights .entry)) (now (diagonals .entry)) (now (rights .entry)) (now (ups .entry)) (now (sources .entry))) (now (field .entry)) at) (λ a. RelaxTold a (now (result .entry)) (now (place .entry)) r (now (result .exit)) (now (place .exit))) (now (field .exit)) ⌝ }
+    ensures { λ r. ⌜ Leaves (relaxCall (filmOf (lentHead (now (head .entry))) (now (weights .entry)) (now (diagonals .entry)) (now (rights .entry)) (now (ups .entry)) (now (sources .entry))) (now (field .entry)) at) (λ a. RelaxTold a (now (result .entry)) (now (place .entry)) r (now (result .exit)) (now (place .exit))) (now (field .exit)) ⌝ }
 {
     let head = crate::head_of(head);
     let answer = problem::relax(head, weights, diagonals, rights, ups, sources, field, at);
@@ -120,7 +121,7 @@ pub extern "C" fn film_propose(
     result: &mut [u32; 2],
     place: &mut usize,
 ) -> u32
-    ensures { λ r. ⌜ Leaves (proposeCall (filmOf (headOf (now (head .entry))) (now (weights .entry)) (now (diagonals .entry)) (now (rights .entry)) (now (ups .entry)) (now (sources .entry))) line (now (proposal .entry)) (now (field .entry))) (λ a. ProposeTold a (now (result .entry)) (now (place .entry)) r (now (result .exit)) (now (place .exit))) (now (field .exit)) ⌝ }
+    ensures { λ r. ⌜ Leaves (proposeCall (filmOf (lentHead (now (head .entry))) (now (weights .entry)) (now (diagonals .entry)) (now (rights .entry)) (now (ups .entry)) (now (sources .entry))) line (now (proposal .entry)) (now (field .entry))) (λ a. ProposeTold a (now (result .entry)) (now (place .entry)) r (now (result .exit)) (now (place .exit))) (now (field .exit)) ⌝ }
 {
     let head = crate::head_of(head);
     let answer = line::propose(
@@ -151,7 +152,7 @@ pub extern "C" fn film_estimate(
     proposal: &mut [u32],
     place: &mut usize,
 ) -> u32
-    ensures { λ r. ⌜ Leaves (estimateCall (filmOf (headOf (now (head .entry))) (now (weights .entry)) (now (diagonals .entry)) (now (rights .entry)) (now (ups .entry)) (now (sources .entry))) line (now (field .entry)) (now (proposal .entry))) (λ a. Told (estimateTest a) (now (place .entry)) r (now (place .exit))) (now (proposal .exit)) ⌝ }
+    ensures { λ r. ⌜ Leaves (estimateCall (filmOf (lentHead (now (head .entry))) (now (weights .entry)) (now (diagonals .entry)) (now (rights .entry)) (now (ups .entry)) (now (sources .entry))) line (now (field .entry)) (now (proposal .entry))) (λ a. Told (foundBy a) (now (place .entry)) r (now (place .exit))) (now (proposal .exit)) ⌝ }
 {
     let head = crate::head_of(head);
     let answer = line::estimate(

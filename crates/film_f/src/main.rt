@@ -26,10 +26,10 @@ fn spaced(x: u64) {
 fn signed(x: i64) {
     if x < 0 {
         text(b" -");
-        number(cell::drop(x));
+        number(cell::negative_part(x));
     } else {
         text(b" ");
-        number(cell::lift(x));
+        number(cell::positive_part(x));
     }
 }
 
@@ -179,7 +179,7 @@ fn margin(answer: Margin) {
 }
 
 // The margin, the estimate of the row from the field, its proposal, and the relaxation of the first cell.
-fn steps_on(h: Head, sources: &[i64], field: &mut [u32], offer: &mut [u32]) {
+fn steps_on(h: Head, sources: &[i64], field: &mut [u32], proposal: &mut [u32]) {
     let weights = [1u16, 1];
     let diagonals = [206u32, 51];
     let rights = [27u32, 0];
@@ -195,10 +195,10 @@ fn steps_on(h: Head, sources: &[i64], field: &mut [u32], offer: &mut [u32]) {
         sources,
         &field[..],
         1,
-        offer,
+        proposal,
     );
     text(b" OFFER");
-    numbers(&offer[..]);
+    numbers(&proposal[..]);
     proposed(line::propose(
         h,
         &weights,
@@ -208,7 +208,7 @@ fn steps_on(h: Head, sources: &[i64], field: &mut [u32], offer: &mut [u32]) {
         sources,
         field,
         1,
-        &offer[..],
+        &proposal[..],
     ));
     relaxed(problem::relax(h, &weights, &diagonals, &rights, &ups, sources, field, 0));
     text(b"\n");
@@ -217,8 +217,8 @@ fn steps_on(h: Head, sources: &[i64], field: &mut [u32], offer: &mut [u32]) {
 fn steps(ceiling: u32, a: i64, b: i64) {
     let sources = [a, b];
     let mut field = [0u32, 0];
-    let mut offer = [0u32, 0];
-    steps_on(head(ceiling), &sources, &mut field, &mut offer);
+    let mut proposal = [0u32, 0];
+    steps_on(head(ceiling), &sources, &mut field, &mut proposal);
 }
 
 fn main() {

@@ -23,9 +23,9 @@ fn spaced(x: u64) {
 fn signed(x: i64) {
     if x < 0 {
         text(b" -");
-        io::print_decimal(STDOUT_FILENO, cell::drop(x));
+        io::print_decimal(STDOUT_FILENO, cell::negative_part(x));
     } else {
-        spaced(cell::lift(x));
+        spaced(cell::positive_part(x));
     }
 }
 

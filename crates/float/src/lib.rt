@@ -6,26 +6,26 @@ ghost use mathlib.Core.Bool.{true};
 ghost use Prim.Native.Nat.{_≤_, _^_};
 ghost use lib.Ieee.{binary64, ofInt, lt, le};
 ghost use Rattle.model.specs.Limits.{estimateLimit};
-ghost use Rattle.model.specs.Integers.{lift, drop};
-ghost use Rattle.model.specs.Estimate.{whole, floorOf, value, wholePart};
+ghost use Rattle.model.specs.Integers.{positivePart, negativePart};
+ghost use Rattle.model.specs.Estimate.{floatOf, floorOf, value, wholePart};
 
 // Whether a pivot is above 0: not where it is NaN.
 pub fn positive(g: f64) -> bool
-    ensures { λ r. ⌜ r ≡ lt (whole 0) g ⌝ }
+    ensures { λ r. ⌜ r ≡ lt (floatOf 0) g ⌝ }
 {
     0.0 < g
 }
 
 // A diagonal or a link as a float, exactly.
 pub fn from_u32(n: u32) -> f64
-    ensures { λ r. ⌜ r ≡ whole n ⌝ }
+    ensures { λ r. ⌜ r ≡ floatOf n ⌝ }
 {
     n as f64
 }
 
 // A right side as a float, exactly: it lies within 2 ^ 53 either way from 0, where every whole number is a float.
 pub fn from_i64(n: i64) -> f64
-    requires { ⌜ (lift n ≤ 2 ^ 53) × (drop n ≤ 2 ^ 53) ⌝ }
+    requires { ⌜ (positivePart n ≤ 2 ^ 53) × (negativePart n ≤ 2 ^ 53) ⌝ }
     ensures { λ r. ⌜ r ≡ ofInt binary64 n ⌝ }
 {
     n as f64
@@ -35,7 +35,7 @@ pub fn from_i64(n: i64) -> f64
 // number of this size is a float exactly, so each test is exact: nothing is rounded and no bits are taken apart. x - x % 1.0
 // would do too, but `%` is a call of C's fmod, and a cast of x itself is defined only where x is whole. At most 26 turns.
 fn floor(x: f64) -> u32
-    requires { ⌜ (le (whole 0) x ≡ true) × (le x (whole estimateLimit) ≡ true) ⌝ }
+    requires { ⌜ (le (floatOf 0) x ≡ true) × (le x (floatOf estimateLimit) ≡ true) ⌝ }
     ensures { λ r. ⌜ r ≡ floorOf x ⌝ }
 {
     let mut low: u32 = 0;

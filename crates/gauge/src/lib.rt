@@ -55,7 +55,7 @@ fn far_wedge(wedge: i32) -> bool
     ensures { λ r. ⌜ r ≡ ltb wedgeLimit (natAbs wedge) ⌝ }
 {
     let wide = wedge as i64;
-    (WEDGE_LIMIT < cell::lift(wide)) | (WEDGE_LIMIT < cell::drop(wide))
+    (WEDGE_LIMIT < cell::positive_part(wide)) | (WEDGE_LIMIT < cell::negative_part(wide))
 }
 
 // Refusal 8.

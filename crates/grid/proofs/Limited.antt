@@ -8,11 +8,11 @@ use lib.ListN.{length, getD}
 use Rattle.model.specs.Film.{Film, filmOf, sizeOf, diagonalAt, sourceAt, beside, across, neighbours, pullOf, slackOf, slack}
 use Rattle.model.specs.Accepted.{Sized, Limited}
 use Rattle.model.specs.declared.Head.{Head}
-use Rattle.model.proofs.Integers.{lift-low, drop-low}
+use Rattle.model.proofs.Integers.{positive-low, negative-low}
 use Rattle.model.proofs.Lists.{getD-low}
 use Rattle.model.proofs.Sides.{cells-low}
 use Rattle.cell.specs.declared.Cell.{Cell}
-use Rattle.grid.specs.Pull.{Links, Limits, Loaded, pullBy, cellBy}
+use Rattle.grid.specs.Pull.{Links, Limits, Aligned, pullBy, cellBy}
 use Rattle.grid.proofs.Neighbours.{Edges, pull-is}
 
 pub size-low : {f : Film} → Sized f → sizeOf f ≤ 1024
@@ -38,13 +38,13 @@ module _ {f : Film} (l : Limited f) where
       record {
         some = c .diagonal-some;
         diagonal-low = omega arith;
-        lift-low = omega (arith, lift-low (sourceAt f i), c .source-low);
-        drop-low = omega (arith, drop-low (sourceAt f i), c .source-low);
+        positive-low = omega (arith, positive-low (sourceAt f i), c .source-low);
+        negative-low = omega (arith, negative-low (sourceAt f i), c .source-low);
       }
 
   -- what loading a cell asks, with as many numbers as there are cells
   pub limited-loaded : {numbers : List ℕ} → length numbers ≡ sizeOf f
-      → Loaded (f .columns) (f .diagonals) (f .rights) (f .ups) (f .sources) numbers
+      → Aligned (f .columns) (f .diagonals) (f .rights) (f .ups) (f .sources) numbers
   limited-loaded {numbers} n =
       let s = l .sized in
       record {

@@ -7,7 +7,7 @@ use native.Mathlib.Omega.{arith}
 use borrow.Author.Tests.{lt-ltb, le-ltb}
 use lib.IntN.{ℤ}
 use lib.ListN.{length, getD, List·getD-eq-default}
-use Rattle.grid.specs.Pull.{backOf, aheadOf, cellBy, Loaded, Loads}
+use Rattle.grid.specs.Pull.{backOf, aheadOf, cellBy, Aligned, IsCell}
 use Rattle.cell.specs.declared.Cell.{Cell}
 
 module _ (links numbers : List ℕ) (i k : ℕ) where
@@ -28,8 +28,8 @@ product-small a b h l = let m : a * b ≤ 2 ^ 26 * 2 ^ 32 = mul-le-mul {m₁ = b
 
 -- the cell that was loaded, from its pull
 pub loads : {columns : ℕ} {diagonals rights ups : List ℕ} {sources : List ℤ} {numbers : List ℕ} (i : ℕ) (r : Cell)
-    → Loaded columns diagonals rights ups sources numbers → i < length numbers → r ≡ cellBy columns diagonals rights ups sources numbers i
-    → r .pull ≤ 2 ^ 60 → Loads r (cellBy columns diagonals rights ups sources numbers i)
+    → Aligned columns diagonals rights ups sources numbers → i < length numbers → r ≡ cellBy columns diagonals rights ups sources numbers i
+    → r .pull ≤ 2 ^ 60 → IsCell r (cellBy columns diagonals rights ups sources numbers i)
 unfolding cellBy
 loads i r L h e p =
     let c = L .cell i h in
@@ -39,7 +39,7 @@ loads i r L h e p =
         some = rw e (c .some);
         diagonal = rw e (c .diagonal-low);
         pull = p;
-        lift = rw e (c .lift-low);
-        drop = rw e (c .drop-low);
+        positive = rw e (c .positive-low);
+        negative = rw e (c .negative-low);
       };
     }

@@ -6,7 +6,7 @@ use Prim.Native.Nat.{ℕ, _+_, _-_, _*_, _≤_, _<_, _^_}
 use lib.Dec.{ltb}
 use lib.IntN.{ℤ, pos}
 use lib.ListN.{length, getD}
-use Rattle.model.specs.Integers.{lift, drop}
+use Rattle.model.specs.Integers.{positivePart, negativePart}
 use Rattle.cell.specs.Cell.{Bounded}
 use Rattle.cell.specs.declared.Cell.{Cell}
 
@@ -39,11 +39,11 @@ cellBy columns diagonals rights ups sources numbers i =
 pub record Limits (diagonal : ℕ) (source : ℤ) : Type 0 where
   pub some : 0 < diagonal
   pub diagonal-low : diagonal ≤ 2 ^ 28
-  pub lift-low : lift source ≤ 2 ^ 60
-  pub drop-low : drop source ≤ 2 ^ 60
+  pub positive-low : positivePart source ≤ 2 ^ 60
+  pub negative-low : negativePart source ≤ 2 ^ 60
 
 -- coefficients for each of the numbers
-pub record Loaded (columns : ℕ) (diagonals rights ups : List ℕ) (sources : List ℤ) (numbers : List ℕ) : Type 0 where
+pub record Aligned (columns : ℕ) (diagonals rights ups : List ℕ) (sources : List ℤ) (numbers : List ℕ) : Type 0 where
   pub right : Links rights numbers
   pub up : Links ups numbers
   pub diagonals-len : length diagonals ≡ length numbers
@@ -52,6 +52,6 @@ pub record Loaded (columns : ℕ) (diagonals rights ups : List ℕ) (sources : L
   pub cell : (i : ℕ) → i < length numbers → Limits (getD diagonals i 0) (getD sources i (pos 0))
 
 -- r is that cell, and within its limits
-pub record Loads (r cell : Cell) : Type 0 where
+pub record IsCell (r cell : Cell) : Type 0 where
   pub is : r ≡ cell
   pub bounded : Bounded r

@@ -10,7 +10,7 @@ ghost use Prim.Native.Nat.{ℕ, _+_, _-_, _*_, _≤_, _<_, _^_};
 ghost use lib.ListN.{length, take};
 ghost use Rattle.model.specs.Film.{filmOf, slack};
 ghost use Rattle.model.specs.Accepted.{Limited};
-ghost use Rattle.grid.specs.Pull.{Links, backOf, aheadOf, Product, pullBy, cellBy, Loaded, Loads};
+ghost use Rattle.grid.specs.Pull.{Links, backOf, aheadOf, Product, pullBy, cellBy, Aligned, IsCell};
 use cell::Cell;
 use model::Head;
 
@@ -60,8 +60,8 @@ pub fn cell_at(
     numbers: &[u32],
     at: usize,
 ) -> Cell
-    requires { ⌜ Loaded columns (now diagonals) (now rights) (now ups) (now sources) (now numbers) × (at < length (now numbers)) ⌝ }
-    ensures { λ r. ⌜ Loads r (cellBy columns (now (diagonals .entry)) (now (rights .entry)) (now (ups .entry)) (now (sources .entry)) (now (numbers .entry)) at) ⌝ }
+    requires { ⌜ Aligned columns (now diagonals) (now rights) (now ups) (now sources) (now numbers) × (at < length (now numbers)) ⌝ }
+    ensures { λ r. ⌜ IsCell r (cellBy columns (now (diagonals .entry)) (now (rights .entry)) (now (ups .entry)) (now (sources .entry)) (now (numbers .entry)) at) ⌝ }
 {
     let pull = pull_at(rights, ups, columns, numbers, at);
     Cell {

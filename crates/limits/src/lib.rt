@@ -34,7 +34,7 @@ fn leaves_grid(n: usize, place: usize, link: u32) -> bool
 fn far_source(source: i64) -> bool
     ensures { λ r. ⌜ r ≡ ltb sourceLimit (natAbs source) ⌝ }
 {
-    (SOURCE_LIMIT < cell::lift(source)) | (SOURCE_LIMIT < cell::drop(source))
+    (SOURCE_LIMIT < cell::positive_part(source)) | (SOURCE_LIMIT < cell::negative_part(source))
 }
 
 // Whether the diagonal, right or up link or source of cell (row, column) is outside its limits.

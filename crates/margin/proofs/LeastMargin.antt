@@ -12,7 +12,7 @@ use mir.Syntax.{w64}
 use mir.Val.{SFits}
 use Rattle.monotone.proofs.Linear.{required-enough, required-least}
 use Rattle.model.specs.declared.Head.{Head}
-use Rattle.model.specs.Integers.{lift, atMostZero}
+use Rattle.model.specs.Integers.{positivePart, atMostZero}
 use Rattle.model.specs.Lists.{greatest}
 use Rattle.model.specs.Film.{Film, filmOf, sizeOf, beside, across, neighbours, diagonalAt, weightAt, slackOf, dominance}
 use Rattle.model.specs.Accepted.{Limited, Accepted}
@@ -44,28 +44,28 @@ ones-prefix n m h =
     }
 
 -- a number that is not at most 0
-above-zero : (z : ℤ) → atMostZero z ≡ false → (z ≡ pos (lift z)) × (0 < lift z)
+above-zero : (z : ℤ) → atMostZero z ≡ false → (z ≡ pos (positivePart z)) × (0 < positivePart z)
 above-zero (pos zero) e = absurd (true≢false e)
 above-zero (pos (suc n)) e = (refl, omega arith)
 above-zero (negsuc n) e = absurd (true≢false e)
 
-pub lift-fits : (z : ℤ) → SFits w64 z → lift z ≤ 2 ^ 63
-lift-fits (pos n) h = omega arith
-lift-fits (negsuc n) h = omega arith
+pub positive-fits : (z : ℤ) → SFits w64 z → positivePart z ≤ 2 ^ 63
+positive-fits (pos n) h = omega arith
+positive-fits (negsuc n) h = omega arith
 
 -- the cell whose slack is the dominance
 pub dominance-bounded : {f : Film} → Limited f → (i pull : ℕ) → i < sizeOf f → pull ≤ 2 ^ 60
     → Bounded (record { diagonal = diagonalAt f i; pull = pull; source = pos 0 })
 dominance-bounded l i pull b h =
     let c = l .cell i b in
-    record { some = c .diagonal-some; diagonal = omega (arith, c .diagonal-low); pull = h; lift = omega arith; drop = omega arith }
+    record { some = c .diagonal-some; diagonal = omega (arith, c .diagonal-low); pull = h; positive = omega arith; negative = omega arith }
 
 module _ (f : Film) (A : Accepted f) (i : ℕ) (b : i < sizeOf f) where
   -- an accepted film's dominance is a whole number of at least 1
-  pub dominance-whole : dominance f i ≡ pos (lift (dominance f i))
+  pub dominance-whole : dominance f i ≡ pos (positivePart (dominance f i))
   dominance-whole = above-zero (dominance f i) (A .dominant i b) .0
 
-  pub dominance-some : 0 < lift (dominance f i)
+  pub dominance-some : 0 < positivePart (dominance f i)
   dominance-some = above-zero (dominance f i) (A .dominant i b) .1
 
   -- what the code finds in a cell, from the pull of ones and of weights
@@ -90,20 +90,20 @@ module _ (f : Film) (A : Accepted f) (i : ℕ) (b : i < sizeOf f) where
 
 -- Document 01: K is the least whole number, 0 included, with K × weighted row sum at least the sum of inside links at every cell.
 module _ (f : Film) (A : Accepted f) where
-  pub margin-enough : (i : ℕ) → i < sizeOf f → inside f i ≤ margin f * lift (dominance f i)
+  pub margin-enough : (i : ℕ) → i < sizeOf f → inside f i ≤ margin f * positivePart (dominance f i)
   unfolding margin
   margin-enough i b =
-      let d = lift (dominance f i) in
+      let d = positivePart (dominance f i) in
       omega (
         arith,
         required-enough d 0 (inside f i) (margin f) (dominance-some f A i b) (greatest-above (marginAt f) (sizeOf f) i b),
         mul-comm d (margin f),
       )
 
-  pub margin-least : (k : ℕ) → ((i : ℕ) → i < sizeOf f → inside f i ≤ k * lift (dominance f i)) → margin f ≤ k
+  pub margin-least : (k : ℕ) → ((i : ℕ) → i < sizeOf f → inside f i ≤ k * positivePart (dominance f i)) → margin f ≤ k
   unfolding margin
   margin-least k h =
       greatest-least (marginAt f) (sizeOf f) k
       (λ i b.
-      let d = lift (dominance f i) in
+      let d = positivePart (dominance f i) in
       required-least d 0 (inside f i) k (dominance-some f A i b) (omega (arith, h i b, mul-comm d k)))

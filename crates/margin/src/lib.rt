@@ -45,7 +45,7 @@ fn margin_at(
         pull: pull,
         source: 0,
     };
-    quotient_up(inside, cell::lift(cell.slack(weights[at])))
+    quotient_up(inside, cell::positive_part(cell.slack(weights[at])))
 }
 
 // The greatest that a cell asks.

@@ -11,15 +11,9 @@ use lib.Dec.{leb, ltb}
 use lib.ListN.{getD}
 use Rattle.model.specs.Integers.{atMostZero}
 use Rattle.model.specs.Film.{Film, slack}
-use Rattle.model.specs.Proposal.{rises, riseCount, withinCeiling, tight, accepts}
+use Rattle.model.specs.Proposal.{rises, riseCount, withinCeiling, tight, accepts, Acceptable}
 use Rattle.model.proofs.Lists.{all-at, all-true, count-some, count-hit}
 use Rattle.model.proofs.Checks.{and-parts}
-
--- at least one cell of the row rises, none exceeds the ceiling, and every cell that rises has a slack of at most 0 in the new field
-pub record Acceptable (f : Film) (start : ℕ) (p q : List ℕ) : Type 0 where
-  pub some : (j : ℕ) × (j < f .columns) × (getD p (start + j) 0 < getD q (start + j) 0)
-  pub low : (j : ℕ) → j < f .columns → getD q (start + j) 0 ≤ f .ceiling
-  pub tight : (j : ℕ) → j < f .columns → getD p (start + j) 0 < getD q (start + j) 0 → atMostZero (slack f q (start + j)) ≡ true
 
 module _ (f : Film) (start : ℕ) (p q : List ℕ) where
   abbrev cellTight : ℕ → Bool

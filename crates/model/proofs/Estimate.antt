@@ -15,7 +15,7 @@ use lib.Ieee.Back.{round-whole}
 use lib.Ieee.Fits.{down-pos}
 use lib.Ieee.Scale.{finite}
 use Rattle.model.specs.Limits.{estimateLimit}
-use Rattle.model.specs.Estimate.{whole, floorOf, value, wholePart}
+use Rattle.model.specs.Estimate.{floatOf, floorOf, value, wholePart}
 use Rattle.model.proofs.Integers.{by-order}
 
 -- The float m × 2 ^ e is the fraction m × up e / down e. Its floor is the greatest whole number n that is not above it.
@@ -24,7 +24,7 @@ unfolding floorOf
 floor-greatest m e n = (le-div-iff-mul-le (down-pos e) .1, le-div-iff-mul-le (down-pos e) .0)
 
 -- up to 2 ^ 53 every whole number is a float exactly
-whole-value : (n : ℕ) → n ≤ 2 ^ 53 → HasValue (whole n) false n 1
+whole-value : (n : ℕ) → n ≤ 2 ^ 53 → HasValue (floatOf n) false n 1
 unfolding ofInt
 whole-value n h = round-whole binary64 false n h
 
@@ -50,7 +50,7 @@ is-zero a b e =
     sym (eqb-true a b (t .0)) ∙ eqb-true a 0 (t .1)
 
 -- a float with a minus sign that is at least 0 is −0
-minus-zero : (m : ℕ) (e : ℤ) → le (whole 0) (fin true m e) ≡ true → m * up e ≡ 0
+minus-zero : (m : ℕ) (e : ℤ) → le (floatOf 0) (fin true m e) ≡ true → m * up e ≡ 0
 unfolding le ofInt
 minus-zero m e z = omega (arith, is-zero (0 * down e) (m * up e * 1) z)
 
@@ -66,7 +66,7 @@ scaled n m d k D K =
     le-leb (n * k * d) (m * k) (omega (arith, mul-right-comm n k d)) ∙ sym (le-leb n (m / d) h))
 
 -- p × 2 ^ d against a float that is at least 0: by multiplication, also where the float is −0
-le-cross : (p : ℕ) (d : ℤ) (s : Bool) (m : ℕ) (e : ℤ) → le (whole 0) (fin s m e) ≡ true
+le-cross : (p : ℕ) (d : ℤ) (s : Bool) (m : ℕ) (e : ℤ) → le (floatOf 0) (fin s m e) ≡ true
     → le (fin false p d) (fin s m e) ≡ leb (p * up d * down e) (m * up e * down d)
 unfolding le
 le-cross p d false m e z = at-most (p * up d * down e) (m * up e * down d)
@@ -74,7 +74,7 @@ le-cross p d true m e z =
     at-most-zero (p * up d * down e) (m * up e * down d) (ap (λ t. t * down d) (minus-zero m e z) ∙ zero-mul (down d))
 
 -- a float w that is the whole number n, against a float that is at least 0
-at-floor : (w x : Float) (n : ℕ) → HasValue w false n 1 → T (finite x) → le (whole 0) x ≡ true → le w x ≡ leb n (floorOf x)
+at-floor : (w x : Float) (n : ℕ) → HasValue w false n 1 → T (finite x) → le (floatOf 0) x ≡ true → le w x ≡ leb n (floorOf x)
 unfolding floorOf
 at-floor nan x n v f z = absurd v
 at-floor (inf s) x n v f z = absurd v
@@ -97,7 +97,7 @@ bounded m e a d k E D v h =
     let s : a * e ≡ k * d * e = ap (λ t. t * e) (omega arith) in
     quotient m e k E (le-of-mul-le-mul-right (omega (arith, mul-right-comm k d e)) D)
 
-below : (w x : Float) (k : ℕ) → HasValue w false k 1 → le (whole 0) x ≡ true → le x w ≡ true → T (finite x) × (floorOf x ≤ k)
+below : (w x : Float) (k : ℕ) → HasValue w false k 1 → le (floatOf 0) x ≡ true → le x w ≡ true → T (finite x) × (floorOf x ≤ k)
 unfolding le floorOf ofInt
 below nan x k v z h = absurd v
 below (inf s) x k v z h = absurd v
@@ -111,20 +111,20 @@ below (fin false p d) (fin false m e) k v z h =
     (tt, bounded (m * up e) (down e) (p * up d) (down d) k (down-pos e) (down-pos d) (v .1) h)
 
 -- The test by which a program searches for the floor of x: in the order of floats n is at most x exactly where n is at most the floor.
-pub floor-test : (n : ℕ) (x : Float) → n ≤ 2 ^ 53 → T (finite x) → le (whole 0) x ≡ true → le (whole n) x ≡ leb n (floorOf x)
-floor-test n x h f z = at-floor (whole n) x n (whole-value n h) f z
+pub floor-test : (n : ℕ) (x : Float) → n ≤ 2 ^ 53 → T (finite x) → le (floatOf 0) x ≡ true → le (floatOf n) x ≡ leb n (floorOf x)
+floor-test n x h f z = at-floor (floatOf n) x n (whole-value n h) f z
 
-pub floor-order : (n : ℕ) (x : Float) → n ≤ 2 ^ 53 → T (finite x) → le (whole 0) x ≡ true → (le (whole n) x ≡ true) ↔ (n ≤ floorOf x)
+pub floor-order : (n : ℕ) (x : Float) → n ≤ 2 ^ 53 → T (finite x) → le (floatOf 0) x ≡ true → (le (floatOf n) x ≡ true) ↔ (n ≤ floorOf x)
 floor-order n x h f z =
     let t = floor-test n x h f z in
     (λ a. leb-true n (floorOf x) (sym t ∙ a), λ b. t ∙ le-leb n (floorOf x) b)
 
 -- A float from 0 to k is no infinity and no NaN, and its floor is at most k.
-pub floor-below : (k : ℕ) (x : Float) → k ≤ 2 ^ 53 → le (whole 0) x ≡ true → le x (whole k) ≡ true → T (finite x) × (floorOf x ≤ k)
-floor-below k x h z b = below (whole k) x k (whole-value k h) z b
+pub floor-below : (k : ℕ) (x : Float) → k ≤ 2 ^ 53 → le (floatOf 0) x ≡ true → le x (floatOf k) ≡ true → T (finite x) × (floorOf x ≤ k)
+floor-below k x h z b = below (floatOf k) x k (whole-value k h) z b
 
 -- Where document 01 takes the whole part, it is the greatest whole number not above the float.
-pub whole-part-greatest : (n : ℕ) (x : Float) → n ≤ 2 ^ 53 → le (whole 0) x ≡ true → le x (whole estimateLimit) ≡ true
-    → (le (whole n) x ≡ true) ↔ (n ≤ wholePart (value x))
+pub whole-part-greatest : (n : ℕ) (x : Float) → n ≤ 2 ^ 53 → le (floatOf 0) x ≡ true → le x (floatOf estimateLimit) ≡ true
+    → (le (floatOf n) x ≡ true) ↔ (n ≤ wholePart (value x))
 unfolding wholePart
 whole-part-greatest n x h z b = rw (z, b) (floor-order n x h (floor-below estimateLimit x (lit≤ tt) z b .0) z)

@@ -22,9 +22,10 @@ use Rattle.model.specs.Refusals.{Check, pass, fail, _orElse_, failIf}
 use Rattle.model.specs.Gauge.{Gauge}
 use Rattle.model.specs.Film.{beside, across, neighbours}
 use Rattle.model.specs.Checks.{outside, shapeCheck, ceilingCheck, notDominant}
+use Rattle.model.specs.Result.{answered, answerBy}
 use Rattle.model.specs.Bytes.{byteAt, wordAt, longAt, signedOf, word, long, unsignedOf}
-use Rattle.model.specs.Fields.{Field, body, endOf, fieldAt, walk, strayAt, field, bytesOf}
-use Rattle.model.specs.File.{cells, ringed, weightsFrom, thicknessesFrom, wedgeCheck, gauged, rowsOffset, columnsOffset, ceilingOffset, weightsOffset, thicknessesOffset, wedgeOffset, endOffset, cellsIn, ringIn, gaugeIn, gaugeDominance, fieldsCheck, fileCheck, accepted, readBy, readFilm, weightBytes, bodies, fileOf, weightsCheck, thicknessesCheck, gaugeCheck, Bytes, Values}
+use Rattle.model.specs.Fields.{Field, body, endOf, fieldAt, walk, unexpectedAt, field, bytesOf}
+use Rattle.model.specs.File.{cells, ringed, weightsFrom, thicknessesFrom, wedgeCheck, gauged, rowsOffset, columnsOffset, ceilingOffset, weightsOffset, thicknessesOffset, wedgeOffset, endOffset, cellsIn, ringIn, gaugeIn, gaugeDominance, fieldsCheck, fileCheck, readFilm, weightBytes, bodies, fileOf, weightsCheck, thicknessesCheck, gaugeCheck, Bytes, Values}
 use Rattle.model.specs.FilmF.{bytesF, FileEdges}
 use Rattle.model.proofs.Integers.{by-order}
 use Rattle.model.proofs.Lists.{tabulate-length, tabulate-at, tabulate-is}
@@ -267,7 +268,7 @@ unfolding fileOf
 file-length g v = sym (zero-add _) ∙ bytes-length (fieldsOf g) (bodies g) 0 (bodies-fit g v)
 
 -- .. and reads back to the film's numbers.
-pub written-reads : (g : Gauge) → Values g → gaugeCheck g true ≡ pass → readFilm (fileOf g) ≡ accepted g
+pub written-reads : (g : Gauge) → Values g → gaugeCheck g true ≡ pass → readFilm (fileOf g) ≡ answered g
 unfolding fileCheck
 written-reads g v e =
     let l = fileOf g in
@@ -278,9 +279,9 @@ written-reads g v e =
     let passed : GaugePassed (gaugeIn l) = subst GaugePassed (sym same) p in
     let walks = passes-walk (fieldsOf (gaugeIn l)) l 0 (fields-walk g l here (passed .numbers)) in
     let end : length l ≡ endOffset (cellsIn l) (ringIn l) = file-length g v ∙ ap (λ (h : Gauge). endOffset (cellsOf h) (ringOf h)) (sym same) in
-    let ends : strayAt l (endOffset (cellsIn l) (ringIn l)) ≡ pass = rw (le-ltb (endOffset (cellsIn l) (ringIn l)) (length l) (omega (arith, end))) in
+    let ends : unexpectedAt l (endOffset (cellsIn l) (ringIn l)) ≡ pass = rw (le-ltb (endOffset (cellsIn l) (ringIn l)) (length l) (omega (arith, end))) in
     let passes : fileCheck l ≡ pass = pass-both (pass-both walks ends) (passed .dominant) in
-    rw passes (ap accepted same)
+    rw passes (ap answered same)
 
 -- ---- the writer's file consists of bytes
 
@@ -414,19 +415,19 @@ record ReadAs (l : List ℕ) (g : Gauge) : Type 0 where
   passed : FilePassed l
   same : gaugeIn l ≡ g
 
-read-as : (l : List ℕ) (g : Gauge) → readFilm l ≡ accepted g → ReadAs l g
+read-as : (l : List ℕ) (g : Gauge) → readFilm l ≡ answered g → ReadAs l g
 read-as l g e = go (fileCheck l) refl e
   where
-    go : (c : Check) → fileCheck l ≡ c → readBy c l ≡ accepted g → ReadAs l g
+    go : (c : Check) → fileCheck l ≡ c → answerBy c (gaugeIn l) ≡ answered g → ReadAs l g
     go pass f e = record { passed = file-passes l f; same = cc }
     go (fail number place) f e = let z : _≡_ {A = ℕ} 0 1 = cc in absurd (omega arith)
 
 -- Writing what was read gives the file's own bytes, ..
-pub read-writes : (bytes : List ℕ) (g : Gauge) → Bytes bytes → readFilm bytes ≡ accepted g → fileOf g ≡ bytes
+pub read-writes : (bytes : List ℕ) (g : Gauge) → Bytes bytes → readFilm bytes ≡ answered g → fileOf g ≡ bytes
 read-writes bytes g B e = let r = read-as bytes g e in ap fileOf (sym (r .same)) ∙ fields-write B (r .passed)
 
 -- .. and what was read passes the tests of the calls that take a film's numbers.
-pub read-values : (bytes : List ℕ) (g : Gauge) → Bytes bytes → readFilm bytes ≡ accepted g → Values g × (gaugeCheck g true ≡ pass)
+pub read-values : (bytes : List ℕ) (g : Gauge) → Bytes bytes → readFilm bytes ≡ answered g → Values g × (gaugeCheck g true ≡ pass)
 read-values bytes g B e =
     let r = read-as bytes g e in
     subst (λ (h : Gauge). Values h × (gaugeCheck h true ≡ pass)) (r .same)

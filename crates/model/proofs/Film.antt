@@ -17,7 +17,7 @@ use Rattle.monotone.specs.Linear.{Positive, Dominant}
 use Rattle.monotone.proofs.Order.{⊑-cells}
 use Rattle.monotone.proofs.Linear.{required-enough, required-least, linear-monotone, proposal-rises}
 use Rattle.monotone.proofs.History.{least-or-none}
-use Rattle.model.specs.Integers.{negative, atMostZero, lift, drop}
+use Rattle.model.specs.Integers.{negative, atMostZero, positivePart, negativePart}
 use Rattle.model.specs.Film.{Film, sizeOf, diagonalAt, sourceAt, pullOf, slackOf, slack, Feasible, Least, LeastFrom, systemOf, rule}
 use Rattle.model.specs.Relaxation.{requiredFor}
 use Rattle.model.proofs.Integers.{sub-source, negative-sub, atMostZero-sub}
@@ -26,17 +26,17 @@ use Rattle.model.proofs.Lists.{getD-low}
 -- The sign of a slack: what bears a cell (diagonal × pressure and the positive part of the source) against what it has to bear (the
 -- pull and the negative part of the source).
 module _ (d pull : ℕ) (s : ℤ) (v : ℕ) where
-  pub slack-negative : negative (slackOf d pull s v) ≡ ltb (d * v + lift s) (pull + drop s)
-  slack-negative = ap negative (sub-source (d * v) pull s) ∙ negative-sub (d * v + lift s) (pull + drop s)
+  pub slack-negative : negative (slackOf d pull s v) ≡ ltb (d * v + positivePart s) (pull + negativePart s)
+  slack-negative = ap negative (sub-source (d * v) pull s) ∙ negative-sub (d * v + positivePart s) (pull + negativePart s)
 
-  pub slack-atMostZero : atMostZero (slackOf d pull s v) ≡ leb (d * v + lift s) (pull + drop s)
-  slack-atMostZero = ap atMostZero (sub-source (d * v) pull s) ∙ atMostZero-sub (d * v + lift s) (pull + drop s)
+  pub slack-atMostZero : atMostZero (slackOf d pull s v) ≡ leb (d * v + positivePart s) (pull + negativePart s)
+  slack-atMostZero = ap atMostZero (sub-source (d * v) pull s) ∙ atMostZero-sub (d * v + positivePart s) (pull + negativePart s)
 
   -- what a cell requires (document 01: its need) is the least pressure whose slack is not negative
   pub required-slack : 0 < d → (negative (slackOf d pull s v) ≡ false) ↔ (requiredFor d pull s ≤ v)
   required-slack h = (
-    λ e. required-least d (lift s) (pull + drop s) v h (ltb-false _ _ (sym slack-negative ∙ e)),
-    λ l. slack-negative ∙ le-ltb _ _ (required-enough d (lift s) (pull + drop s) v h l),
+    λ e. required-least d (positivePart s) (pull + negativePart s) v h (ltb-false _ _ (sym slack-negative ∙ e)),
+    λ l. slack-negative ∙ le-ltb _ _ (required-enough d (positivePart s) (pull + negativePart s) v h l),
   )
 
 -- past its last cell a field counts as 0, so that the ceiling need be tested in cells only

@@ -39,4 +39,4 @@ film-f =
 
 pub film-f-computed : Computed
 unfolding bytesF reportF sweep firstOf beside across neighbours filmFits badCoefficient zeroWeight notDominant sizeCheck coefficientCheck weightCheck dominanceCheck margin orderOf readied run fileCheck fieldAt gaugeDominance digits peakOf cellLines eliminate substitute floorOf wholePart eliminated solved estimate add sub mul div lt le ofInt eq sum neg round size span climb units odd trailingZeros proposeOwn proposeLines raisedBy riseCount withinCeiling tight propose
-film-f-computed = record { report = refl; offered = refl; proposals-on = refl }
+film-f-computed = record { report = refl; estimated = refl; proposals-on = refl }

@@ -1,6 +1,6 @@
 -- Coefficients formed from a film's numbers that pass their tests pass the tests of the calls that take coefficients.
 use mathlib.Core.Path.{_≡_, refl, sym, _∙_, subst}
-use mathlib.Core.Bool.{Bool, true, false, cond, _&&_, true≢false}
+use mathlib.Core.Bool.{Bool, true, false, not, cond, _&&_, true≢false}
 use mathlib.Core.List.{List}
 use Prim.Native.Nat.{ℕ, zero, suc, _+_, _-_, _*_, _/_, _%_, _≤_, _<_}
 use native.Mathlib.Nat.{le-trans, mul-le-mul, div-lt-iff-lt-mul, mod-lt}
@@ -13,13 +13,14 @@ use lib.ListN.{length, getD}
 use Rattle.model.specs.Limits.{sideLimit, ceilingLimit, thicknessLimit, wedgeLimit, diagonalLimit, linkLimit, sourceLimit}
 use Rattle.model.specs.Lists.{tabulate, firstOf}
 use Rattle.monotone.specs.Rule.{Bounded}
-use Rattle.model.specs.Refusals.{Check, pass, _orElse_, failFirst}
+use Rattle.model.specs.Refusals.{Check, pass, _orElse_, failIf, failFirst}
+use Rattle.model.specs.Result.{answered}
 use Rattle.model.specs.Gauge.{Gauge, thicknessAt}
 use Rattle.model.specs.Film.{Film, sizeOf, weightAt, rule}
 use Rattle.model.specs.Coefficients.{linkOf, formedDiagonal, formedRight, formedUp, formedSource, byCell, formed}
 use Rattle.model.specs.Checks.{outside, filmFits, badCoefficient, zeroWeight, notDominant, sizeCheck, coefficientCheck, weightCheck, dominanceCheck, startCheck, numericCheck, filmCheck, fieldCheck}
 use Rattle.model.specs.Accepted.{Sized, LimitedCell, Limited, Accepted}
-use Rattle.model.specs.File.{cells, ringed, ceilingOffset, weightsOffset, thicknessesOffset, gaugeDominance, readFilm, accepted, gaugeCheck, Bytes, Values}
+use Rattle.model.specs.File.{cells, ringed, ceilingOffset, weightsOffset, thicknessesOffset, gaugeDominance, readFilm, gaugeCheck, Bytes, Values}
 use Rattle.model.proofs.Integers.{sub-pos, sub-lt, sub-le, by-order}
 use Rattle.model.proofs.Lists.{tabulate-length, tabulate-at, first-hit}
 use Rattle.model.proofs.Checks.{within, failIf-pass, failFirst-pass}
@@ -43,9 +44,9 @@ edge-false a b link h =
     by-order b a (λ l. rw (lt-leb a b l)) (λ l. rw (le-leb a b l) (le-ltb 0 link (omega (arith, h l))))
 
 -- 4, 5 and 10
-size-fine : (f : Film) → Sized f → sizeCheck f true ≡ pass
+size-fine : (f : Film) → Sized f → (fits : Bool) → sizeCheck f fits ≡ failIf (not fits) 10 0
 unfolding sizeCheck filmFits
-size-fine f s =
+size-fine f s fits =
     rw (
       outside-false (f .rows) 1 sideLimit (s .rows-some) (s .rows-low),
       outside-false (f .columns) 1 sideLimit (s .columns-some) (s .columns-low),
@@ -71,26 +72,27 @@ cell-fine f i c =
     )
 
 -- all of a film's own tests, so that a call's are left
-accepted-rest : (f : Film) → Accepted f → (order start place : Check) → numericCheck f true order start place ≡ (order orElse start orElse place)
+accepted-rest : (f : Film) → Accepted f → (fits : Bool) (order start place : Check)
+    → numericCheck f fits order start place ≡ (failIf (not fits) 10 0 orElse order orElse start orElse place)
 unfolding coefficientCheck weightCheck dominanceCheck zeroWeight notDominant
-accepted-rest f A order start place =
+accepted-rest f A fits order start place =
     rw (
-      size-fine f (A .limited .sized),
+      size-fine f (A .limited .sized) fits,
       pass-first (badCoefficient f) (sizeOf f) 14 (λ i. i) (λ i h. cell-fine f i (A .limited .cell i h)),
       pass-first (zeroWeight f) (sizeOf f) 6 (λ i. i) (λ i h. ne-eqb (weightAt f i) 0 (λ e. omega (arith, A .weight i h))),
       pass-first (notDominant f) (sizeOf f) 9 (λ i. i) (A .dominant),
     )
 
 pub accepted-passes : (f : Film) → Accepted f → filmCheck f ≡ pass
-accepted-passes f A = accepted-rest f A pass pass pass
+accepted-passes f A = accepted-rest f A true pass pass pass
 
 -- a field of such a film passes too
-pub field-accepted : (f : Film) (p : List ℕ) (order place : Check) → Accepted f → Bounded (rule f) p
-    → fieldCheck f p true order place ≡ (order orElse place)
-field-accepted f p order place A B =
+pub field-accepted : (f : Film) (p : List ℕ) (fits : Bool) (order place : Check) → Accepted f → Bounded (rule f) p
+    → fieldCheck f p fits order place ≡ (failIf (not fits) 10 0 orElse order orElse place)
+field-accepted f p fits order place A B =
     rw (
       eq-eqb _ _ (B .len),
-      accepted-rest f A order (startCheck f p) place,
+      accepted-rest f A fits order (startCheck f p) place,
       pass-first (λ i. ltb (f .ceiling) (getD p i 0)) (sizeOf f) 12 (λ i. i) (λ i h. le-ltb (f .ceiling) (getD p i 0) (B .low i)),
     )
 
@@ -231,5 +233,5 @@ pub formed-passes : (g : Gauge) → Values g → gaugeCheck g true ≡ pass → 
 formed-passes g v e = accepted-passes (formed g) (formed-accepted g v e)
 
 -- .. those of an accepted file do.
-pub file-film : (bytes : List ℕ) (g : Gauge) → Bytes bytes → readFilm bytes ≡ accepted g → filmCheck (formed g) ≡ pass
+pub file-film : (bytes : List ℕ) (g : Gauge) → Bytes bytes → readFilm bytes ≡ answered g → filmCheck (formed g) ≡ pass
 file-film bytes g B e = let r = read-values bytes g B e in formed-passes g (r .0) (r .1)

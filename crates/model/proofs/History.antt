@@ -1,86 +1,87 @@
--- Calls as document 01 lists them: each is good by itself, refused or not, and so its promise on lists of calls holds.
-use mathlib.Core.Path.{_≡_, refl}
+-- Calls as document 01 lists them, from the promise in their `ensures`: each is good by itself, refused or not; Done holds the least field at
+-- or above any start; and a bound on relaxations.
+use mathlib.Core.Path.{_≡_, refl, sym, ap, _∙_}
 use mathlib.Core.Bool.{Bool, true}
 use mathlib.Core.List.{List}
-use Prim.Native.Nat.{ℕ, _+_, _-_, _*_, _≤_, zero-le}
+use Prim.Native.Nat.{ℕ, _+_, _-_, _*_, _≤_}
 use native.Mathlib.Omega.{arith}
 use borrow.Author.Tests.{eqb-true}
 use lib.Dec.{eqb}
 use lib.ListN.{length}
 use Rattle.monotone.specs.Field.{total}
 use Rattle.monotone.specs.Rule.{Bounded}
-use Rattle.monotone.specs.History.{Verdict, Good, zeros, played, Promise}
-use Rattle.monotone.proofs.History.{zeros-start, good-same, good-proposal, history}
+use Rattle.monotone.specs.History.{Verdict, Good}
+use Rattle.monotone.proofs.History.{good-same, good-proposal}
 use Rattle.model.specs.Refusals.{Check, pass, fail}
-use Rattle.model.specs.Film.{Film, sizeOf, Least, LeastFrom, rule}
-use Rattle.model.specs.Checks.{orderCheck, lineCheck, filmCheck, fieldCheck}
-use Rattle.model.specs.Proposal.{lineStart, proposeBy}
-use Rattle.model.specs.Run.{done, runBy, runCall}
-use Rattle.model.specs.History.{Call, runVerdict, after, verdict, calls}
-use Rattle.model.specs.declared.Counts.{Counts}
-use Rattle.model.proofs.Film.{rule-monotone, least-is, least-from}
+use Rattle.model.specs.Film.{Film, sizeOf, LeastFrom, rule}
+use Rattle.model.specs.Checks.{orderCheck, lineCheck, fieldCheck}
 use Rattle.model.specs.Accepted.{Accepted}
-use Rattle.model.proofs.Checks.{check-passes, field-passes, accepted-positive}
+use Rattle.model.specs.Result.{Answer, answered, answerBy, kept, Result, callBy, Gives}
+use Rattle.model.specs.Proposal.{lineStart, propose, proposeCall}
+use Rattle.model.specs.Run.{RunAnswer, done, stopped, over, countedIn, run, runCall}
+use Rattle.model.specs.Demand.{Step, ran, proposed, exitOf, verdictOf, Kept}
+use Rattle.model.specs.declared.Counts.{Counts}
+use Rattle.model.proofs.Film.{least-from}
+use Rattle.model.proofs.Checks.{FieldPassed, field-passes, accepted-positive}
 use Rattle.model.proofs.Proposal.{propose-rises}
-use Rattle.model.proofs.Run.{visitsOf, run-good, run-visits, run-done-least}
+use Rattle.model.proofs.Run.{runVerdict, run-good, run-visits, run-done-least}
 
--- the tests of the two calls
-abbrev runCheck : Film → ℕ → List ℕ → Check
-runCheck f order p = fieldCheck f p true (orderCheck order) pass
+-- a call that answered has passed its tests, and gave what it then gives
+pub record Answered {A : Type 0} (tests : Check) (r : Result A) (a : A) (exit : List ℕ) : Type 0 where
+  pub passes : tests ≡ pass
+  pub answer-is : a ≡ r .answer
+  pub lent-is : exit ≡ r .lent
 
-abbrev proposalCheck : Film → ℕ → List ℕ → List ℕ → Check
-proposalCheck f line proposal p = fieldCheck f p (eqb (length proposal) (f .columns)) pass (lineCheck f line)
+pub call-answered : {A : Type 0} (tests : Check) (r : Result A) (lent : List ℕ) {a : A} {exit : List ℕ}
+    → Gives (callBy tests r lent) (answered a) exit → Answered tests r a exit
+call-answered pass r lent G = record { passes = refl; answer-is = cc; lent-is = G .lent-is }
+call-answered (fail number place) r lent G = let z : _≡_ {A = ℕ} 0 1 = cc in absurd (omega arith)
 
--- A run call on any film and field, refused or not.
-module _ (f : Film) (budget order : ℕ) (on : Bool) (p : List ℕ) where
+-- A run call on any film and field that answered.
+module _ (f : Film) (budget order : ℕ) (on : Bool) (p : List ℕ) {exit : List ℕ} where
+  answered-run : {a : RunAnswer} → Gives (runCall f budget order on p) (answered a) exit
+      → Answered (fieldCheck f p true (orderCheck order) pass) (run f budget order on p) a exit
+  answered-run G = call-answered _ (run f budget order on p) p G
+
+  started : {a : RunAnswer} → Gives (runCall f budget order on p) (answered a) exit → FieldPassed f p true (orderCheck order) pass
+  started G = field-passes f p true (orderCheck order) pass (answered-run G .passes)
+
   -- from any accepted start, Done holds the least field at or above the start that meets the film
-  pub runCall-done-least : (c : Counts) → runCall f budget order on p .answer ≡ done c → LeastFrom f p (runCall f budget order on p .lent)
-  runCall-done-least c = go (runCheck f order p) refl
-    where
-      go : (x : Check) → runCheck f order p ≡ x → runBy x f budget order on p .answer ≡ done c
-          → LeastFrom f p (runBy x f budget order on p .lent)
-      go pass h e =
-          let P = field-passes f p true (orderCheck order) pass h in
-          least-from f (accepted-positive (P .film)) (P .bounded .len) (run-done-least f (P .film) budget order on p (P .bounded) c e)
-      go (fail number place) h e = let z : _≡_ {A = ℕ} 0 1 = cc in absurd (omega arith)
+  pub runCall-done-least : (c : Counts) → Gives (runCall f budget order on p) (answered (done c)) exit → LeastFrom f p exit
+  runCall-done-least c G =
+      let P = started G in
+      rw (answered-run G .lent-is)
+      (least-from f (accepted-positive (P .film)) (P .bounded .len) (run-done-least f (P .film) budget order on p (P .bounded) c (sym (answered-run G .answer-is))))
 
   -- visits are at most N × (1 + total after − total before)
-  pub runCall-visits : visitsOf (runCall f budget order on p .answer)
-      ≤ sizeOf f * (1 + (total (runCall f budget order on p .lent) - total p))
-  runCall-visits = go (runCheck f order p) refl
-    where
-      go : (x : Check) → runCheck f order p ≡ x
-          → visitsOf (runBy x f budget order on p .answer) ≤ sizeOf f * (1 + (total (runBy x f budget order on p .lent) - total p))
-      go pass h = let P = field-passes f p true (orderCheck order) pass h in run-visits f (P .film) budget order on p (P .bounded)
-      go (fail number place) h = zero-le
+  pub runCall-visits : {a : RunAnswer} → Gives (runCall f budget order on p) (answered a) exit
+      → countedIn a .visits ≤ sizeOf f * (1 + (total exit - total p))
+  runCall-visits G =
+      let P = started G in
+      rw (answered-run G .answer-is, answered-run G .lent-is) (run-visits f (P .film) budget order on p (P .bounded))
 
+-- a run's verdict as a step of a list
+step-verdict : (n budget order : ℕ) (on : Bool) (a : RunAnswer) (exit : List ℕ) → verdictOf n (ran budget order on (answered a) exit) ≡ runVerdict n budget a
+step-verdict n budget order on (done c) exit = refl
+step-verdict n budget order on (stopped c) exit = refl
+step-verdict n budget order on (over i c) exit = refl
+
+-- on an accepted film a step that keeps its call's promise is good, refused or not
 module _ (f : Film) (A : Accepted f) where
-  -- a run or a line proposal, refused ones included
-  pub calls-good : (c : Call) (p : List ℕ) → Bounded (rule f) p → Good (rule f) p (after f c p) (verdict f c p)
-  calls-good (Call.run budget order on) p B = go (runCheck f order p)
+  pub step-good : (entry : List ℕ) (s : Step) → Kept f entry s → Bounded (rule f) entry → Good (rule f) entry (exitOf s) (verdictOf (sizeOf f) s)
+  step-good p (ran budget order on answer exit) k B =
+      rw (k .answer-is, k .lent-is) (go (fieldCheck f p true (orderCheck order) pass))
     where
-      go : (x : Check) → Good (rule f) p (runBy x f budget order on p .lent)
-          (runVerdict (sizeOf f) budget (runBy x f budget order on p .answer))
-      go pass = run-good f A budget order on p B
+      go : (x : Check) → let r = run f budget order on p in
+          Good (rule f) p (kept x (r .lent) p) (verdictOf (sizeOf f) (ran budget order on (answerBy x (r .answer)) (kept x (r .lent) p)))
+      go pass = rw (step-verdict (sizeOf f) budget order on (run f budget order on p .answer) (run f budget order on p .lent)) (run-good f A budget order on p B)
       go (fail number place) = good-same B
-  calls-good (Call.propose line proposal) p B = go (proposalCheck f line proposal p) refl
+  step-good p (proposed line proposal answer exit) k B =
+      rw (k .lent-is) (go (fieldCheck f p (eqb (length proposal) (f .columns)) pass (lineCheck f line)) refl)
     where
-      go : (x : Check) → proposalCheck f line proposal p ≡ x
-          → Good (rule f) p (proposeBy x f line proposal p .lent) Verdict.other
+      go : (x : Check) → fieldCheck f p (eqb (length proposal) (f .columns)) pass (lineCheck f line) ≡ x
+          → Good (rule f) p (kept x (propose f (lineStart f line) proposal p .lent) p) Verdict.other
       go pass h =
           let P = field-passes f p (eqb (length proposal) (f .columns)) pass (lineCheck f line) h in
           good-proposal (propose-rises f (lineStart f line) proposal p A B (eqb-true _ _ (P .fits-is)))
       go (fail number place) h = good-same B
-
--- Document 01's demand 3: what holds of every list of calls on an accepted film, from the zero field.
-pub film-history : (f : Film) → filmCheck f ≡ pass → Promise (rule f) (calls f) (zeros (rule f))
-film-history f e =
-    let A = (check-passes f true pass pass pass e) .film in
-    history (rule f) (calls f) (calls-good f A) (zeros (rule f)) (zeros-start (rule f))
-    (rule-monotone f (accepted-positive A))
-
--- a call that answers Done leaves document 01's least field
-pub history-least : (f : Film) → filmCheck f ≡ pass → (cs : List Call) (c : Call)
-    → verdict f c (played (calls f) cs (zeros (rule f))) ≡ Verdict.done
-    → Least f (after f c (played (calls f) cs (zeros (rule f))))
-history-least f e cs c d = least-is f (accepted-positive ((check-passes f true pass pass pass e) .film)) ((film-history f e) .least cs c d)

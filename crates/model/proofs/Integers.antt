@@ -7,7 +7,7 @@ use native.Mathlib.Omega.{arith}
 use borrow.Author.Tests.{lt-ltb, le-ltb, le-leb, lt-leb}
 use lib.Dec.{leb, ltb}
 use lib.IntN.{ℤ, pos, negsuc, negℤ, subℕ, _+ℤ_, _-ℤ_, _*ℤ_, natAbs}
-use Rattle.model.specs.Integers.{negative, atMostZero, lift, drop}
+use Rattle.model.specs.Integers.{negative, atMostZero, positivePart, negativePart}
 
 pub sub-lt : (a b : ℕ) → a < b → subℕ a b ≡ negsuc (b - suc a)
 sub-lt a b h = rw (lt-ltb a b h)
@@ -30,18 +30,18 @@ sub-pos a zero = ap pos (omega arith) ∙ sym (sub-le a 0 (omega arith))
 sub-pos a (suc k) = refl
 
 -- a signed number is the difference of its two parts
-pub sub-parts : (z : ℤ) → z ≡ subℕ (lift z) (drop z)
+pub sub-parts : (z : ℤ) → z ≡ subℕ (positivePart z) (negativePart z)
 sub-parts (pos n) = ap pos (omega arith) ∙ sym (sub-le n 0 (omega arith))
 sub-parts (negsuc n) = ap negsuc (omega arith) ∙ sym (sub-lt 0 (suc n) (omega arith))
 
 -- the two parts are within its magnitude
-pub lift-low : (s : ℤ) → lift s ≤ natAbs s
-lift-low (pos n) = omega arith
-lift-low (negsuc n) = omega arith
+pub positive-low : (s : ℤ) → positivePart s ≤ natAbs s
+positive-low (pos n) = omega arith
+positive-low (negsuc n) = omega arith
 
-pub drop-low : (s : ℤ) → drop s ≤ natAbs s
-drop-low (pos n) = omega arith
-drop-low (negsuc n) = omega arith
+pub negative-low : (s : ℤ) → negativePart s ≤ natAbs s
+negative-low (pos n) = omega arith
+negative-low (negsuc n) = omega arith
 
 neg-pos : (n : ℕ) → negℤ (pos n) ≡ subℕ 0 n
 neg-pos zero = sym (sub-le 0 0 (omega arith))
@@ -76,8 +76,8 @@ pub sub-sub : (a b c d : ℕ) → subℕ a b -ℤ subℕ c d ≡ subℕ (a + d) 
 sub-sub a b c d = ap (λ (z : ℤ). subℕ a b +ℤ z) (sub-neg c d) ∙ sub-add a b d c
 
 -- a − b + s
-pub sub-source : (a b : ℕ) (s : ℤ) → pos a -ℤ pos b +ℤ s ≡ subℕ (a + lift s) (b + drop s)
-sub-source a b s = ap₂ (λ (x y : ℤ). x +ℤ y) (sub-pos a b) (sub-parts s) ∙ sub-add a b (lift s) (drop s)
+pub sub-source : (a b : ℕ) (s : ℤ) → pos a -ℤ pos b +ℤ s ≡ subℕ (a + positivePart s) (b + negativePart s)
+sub-source a b s = ap₂ (λ (x y : ℤ). x +ℤ y) (sub-pos a b) (sub-parts s) ∙ sub-add a b (positivePart s) (negativePart s)
 
 -- multiples
 pub mul-sub : (k a b : ℕ) → pos k *ℤ subℕ a b ≡ subℕ (k * a) (k * b)

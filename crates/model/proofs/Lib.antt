@@ -5,6 +5,7 @@ pub mod Film
 pub mod Checks
 pub mod Sides
 pub mod Reynolds
+pub mod Required
 pub mod Proposal
 pub mod Bare
 pub mod Acceptance
@@ -15,6 +16,8 @@ pub mod History
 pub mod Demand
 pub mod Fields
 pub mod File
+pub mod Inverse
+pub mod Session
 pub mod Prefix
 pub mod Forming
 pub mod FilmF

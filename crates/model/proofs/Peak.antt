@@ -9,13 +9,7 @@ use native.Mathlib.Omega.{arith}
 use borrow.Author.Tests.{ltb-true, ltb-false}
 use lib.Dec.{ltb}
 use lib.ListN.{getD}
-use Rattle.model.specs.Report.{higher, peakOf}
-
--- of n cells
-pub record Peak (p : List ℕ) (n top : ℕ) : Type 0 where
-  pub inside : top < n
-  pub greatest : (i : ℕ) → i < n → getD p i 0 ≤ getD p top 0
-  pub lowest : (i : ℕ) → i < top → getD p i 0 < getD p top 0
+use Rattle.model.specs.Report.{higher, peakOf, Peak}
 
 -- one cell more
 peak-step : (p : List ℕ) (n best : ℕ) → Peak p n best → Peak p (suc n) (higher p best n)

@@ -18,17 +18,14 @@ use Rattle.model.specs.Refusals.{Check, pass, fail, _orElse_}
 use Rattle.model.specs.Gauge.{Gauge}
 use Rattle.model.specs.Checks.{outside, shapeCheck, ceilingCheck}
 use Rattle.model.specs.Bytes.{byteAt, wordAt, longAt, signedOf}
-use Rattle.model.specs.Fields.{fieldAt, strayAt}
-use Rattle.model.specs.File.{cells, ringed, wedgeCheck, shapeField, ceilingField, weightsField, thicknessesField, wedgeField, gauged, rowsOffset, columnsOffset, ceilingOffset, weightsOffset, thicknessesOffset, wedgeOffset, endOffset, cellsIn, ringIn, gaugeIn, gaugeDominance, fieldsCheck, fileCheck, accepted, readBy, readFilm}
-use Rattle.model.specs.Report.{reportBy, reportOf}
+use Rattle.model.specs.Fields.{fieldAt, unexpectedAt}
+use Rattle.model.specs.File.{cells, ringed, wedgeCheck, shapeField, ceilingField, weightsField, thicknessesField, wedgeField, gauged, rowsOffset, columnsOffset, ceilingOffset, weightsOffset, thicknessesOffset, wedgeOffset, endOffset, cellsIn, ringIn, gaugeIn, gaugeDominance, fieldsCheck, fileCheck, readFilm}
+use Rattle.model.specs.Result.{answerBy}
+use Rattle.model.specs.Report.{reportBy, reportOf, enough}
 use Rattle.model.proofs.Lists.{tabulate-length, tabulate-at, tabulate-is}
 use Rattle.model.proofs.Checks.{failFirst-same}
 use Rattle.model.proofs.Fields.{Agree, Local, AllLocal, field-same, walk-same}
 use Rattle.model.proofs.File.{Shaped, gauge-shape}
-
--- one byte more than the longest accepted file, which has 25 + 2 × 1,024 + 34 × 34 = 3,229 bytes
-abbrev pub enough : ℕ
-enough = 3230
 
 -- a film within the limits of its shape ends before that
 shaped-end : (g : Gauge) → Shaped g → endOffset (cells (g .rows) (g .columns)) (ringed (g .rows) (g .columns)) < enough
@@ -85,10 +82,10 @@ tabulate-same : (n : ℕ) (f g : ℕ → ℕ) → ((i : ℕ) → i < n → f i �
 tabulate-same n f g h = tabulate-is n g 0 (tabulate n f) (tabulate-length n f) (λ i b. tabulate-at n f 0 i b ∙ h i b)
 
 -- a test that fails refuses the file, whatever stands after it
-stopped : (x y z w u v s t : Check) (l m : List ℕ) (number place : ℕ) → y ≡ fail number place
-    → readBy ((((x orElse y) orElse z) orElse u) orElse s) l ≡ readBy ((((x orElse y) orElse w) orElse v) orElse t) m
-stopped pass y z w u v s t l m number place e = rw e
-stopped (fail a b) y z w u v s t l m number place e = refl
+stopped : (x y z w u v s t : Check) (g h : Gauge) (number place : ℕ) → y ≡ fail number place
+    → answerBy ((((x orElse y) orElse z) orElse u) orElse s) g ≡ answerBy ((((x orElse y) orElse w) orElse v) orElse t) h
+stopped pass y z w u v s t g h number place e = rw e
+stopped (fail a b) y z w u v s t g h number place e = refl
 
 -- the test of a file's shape
 abbrev shapeIn : List ℕ → Check
@@ -140,14 +137,9 @@ module _ (l m : List ℕ) (A : Agree enough l m) where
   -- so do all tests of a film that ends there
   fields-same : (n t : ℕ) → endOffset n t < enough → fieldsCheck (gauged n t) l ≡ fieldsCheck (gauged n t) m
   fields-same n t h =
-      let stray : strayAt l (endOffset n t) ≡ strayAt m (endOffset n t) =
+      let behind : unexpectedAt l (endOffset n t) ≡ unexpectedAt m (endOffset n t) =
       rw (lt-ltb (endOffset n t) (length l) (omega (arith, A .left)), lt-ltb (endOffset n t) (length m) (omega (arith, A .right))) in
-      ap₂ _orElse_ (walk-same A (gauged n t) 0 (gauged-local n t) (omega arith)) stray
-
-  -- where the numbers are the same, so is what is read by one and the same check
-  by-same : (c : Check) → gaugeIn l ≡ gaugeIn m → readBy c l ≡ readBy c m
-  by-same pass e = ap accepted e
-  by-same (fail number place) e = refl
+      ap₂ _orElse_ (walk-same A (gauged n t) 0 (gauged-local n t) (omega arith)) behind
 
   -- a file whose shape is within its limits is read alike
   read-shaped : Shaped (gaugeIn m) → readFilm l ≡ readFilm m
@@ -157,14 +149,14 @@ module _ (l m : List ℕ) (A : Agree enough l m) where
       let checks : fileCheck l ≡ fileCheck m =
       ap (λ (g : Gauge). fieldsCheck (gauged (cells (g .rows) (g .columns)) (ringed (g .rows) (g .columns))) l orElse gaugeDominance g) same
       ∙ ap (λ c. c orElse gaugeDominance (gaugeIn m)) (fields-same (cellsIn m) (ringIn m) (shaped-end (gaugeIn m) s)) in
-      rw checks (by-same (fileCheck m) same)
+      ap₂ answerBy checks same
 
   -- so is one whose shape is refused
   read-shapeless : (number place : ℕ) → shapeIn m ≡ fail number place → readFilm l ≡ readFilm m
   unfolding fileCheck
   read-shapeless number place e =
       rw (field-same A 0 1 2 (omega arith), rows-same, columns-same)
-      (stopped (fieldAt m 0 1 2) (shapeIn m) _ _ _ _ _ _ l m number place e)
+      (stopped (fieldAt m 0 1 2) (shapeIn m) _ _ _ _ _ _ _ _ number place e)
 
   -- and so all
   read-same : readFilm l ≡ readFilm m

@@ -12,19 +12,21 @@ use Rattle.monotone.specs.Links.{pull}
 use Rattle.monotone.specs.Rule.{Bounded}
 use Rattle.monotone.proofs.History.{zeros-bounded}
 use Rattle.model.specs.Limits.{ceilingLimit, diagonalLimit, linkLimit}
-use Rattle.model.specs.Integers.{lift, drop}
+use Rattle.model.specs.Integers.{positivePart, negativePart}
 use Rattle.model.specs.Film.{Film, sizeOf, rowOf, columnOf, rightAt, upAt, diagonalAt, sourceAt, linkIf, beside, across, neighbours, pullOf, slack, rule}
 use Rattle.model.specs.Accepted.{Sized, Limited, Accepted}
 use Rattle.model.specs.Coefficients.{formed}
-use Rattle.model.specs.Run.{RunAnswer, done, stopped, over, refused}
-use Rattle.model.specs.File.{Reading, accepted, readFilm, Bytes}
+use Rattle.model.specs.Gauge.{Gauge}
+use Rattle.model.specs.Result.{Answer, answered, refused}
+use Rattle.model.specs.Run.{RunAnswer, done, stopped, over, countedIn}
+use Rattle.model.specs.File.{readFilm, Bytes}
 use Rattle.model.specs.Report.{decimal, signed, line, filmWord, ceilingWord, doneWord, stoppedWord, overWord, refusedWord, peakWord, placeText, peakOf, cellLine, cellLines, peakLine, fieldText, answerLine, refusedLine, answerText, headLine, reportBudget, reportRun, filmReport, reportBy, reportOf}
 use Rattle.model.specs.ReportCall.{longestReport}
 use Rattle.model.specs.declared.Counts.{Counts}
-use Rattle.model.proofs.Integers.{sub-source, lift-low, drop-low}
+use Rattle.model.proofs.Integers.{sub-source, positive-low, negative-low}
 use Rattle.model.proofs.Lists.{getD-low}
 use Rattle.model.proofs.Sides.{pull-append}
-use Rattle.model.proofs.Run.{visitsOf, raisesOf, run-budget, run-raises, run-good}
+use Rattle.model.proofs.Run.{run-budget, run-raises, run-good}
 use Rattle.model.proofs.File.{read-values}
 use Rattle.model.proofs.Forming.{formed-accepted}
 use Rattle.model.proofs.Peak.{peak-below}
@@ -142,8 +144,8 @@ module _ (f : Film) (l : Limited f) (p : List ℕ) (B : Bounded (rule f) p) wher
         let c = l .cell i h in
         let d : diagonalAt f i * getD p i 0 ≤ diagonalLimit * ceilingLimit = mul-le-mul (c .diagonal-low) (pressure-low i) in
         rw (sub-source (diagonalAt f i * getD p i 0) (pullOf f p i) (sourceAt f i))
-        (signed-length (diagonalAt f i * getD p i 0 + lift (sourceAt f i)) (pullOf f p i + drop (sourceAt f i))
-        (omega (arith, lift-low (sourceAt f i), c .source-low)) (omega (arith, pull-low i, drop-low (sourceAt f i), c .source-low)))
+        (signed-length (diagonalAt f i * getD p i 0 + positivePart (sourceAt f i)) (pullOf f p i + negativePart (sourceAt f i))
+        (omega (arith, positive-low (sourceAt f i), c .source-low)) (omega (arith, pull-low i, negative-low (sourceAt f i), c .source-low)))
 
     -- a pressure has at most 8 digits, row and column at most 2
     pressure-length : length (decimal (getD p i 0)) ≤ 8
@@ -234,7 +236,7 @@ head-length f s =
 
 -- what follows it, by the run's answer
 text-length : (f : Film) (a : RunAnswer) (p : List ℕ) → length (fieldText f p) ≤ 33236
-    → visitsOf a ≤ reportBudget → raisesOf a ≤ visitsOf a → length (answerText f a p) ≤ 33260
+    → countedIn a .visits ≤ reportBudget → countedIn a .raises ≤ countedIn a .visits → length (answerText f a p) ≤ 33260
 text-length f (done c) p t h k = omega (arith, length-append (answerLine doneWord c) (fieldText f p), answer-length doneWord c (omega arith) h k)
 text-length f (stopped c) p t h k =
     omega (arith, length-append (answerLine stoppedWord c) (fieldText f p), answer-length stoppedWord c (omega arith) h k)
@@ -247,7 +249,6 @@ text-length f (over i c) p t h k =
       decimal-most (rowOf f i + 1),
       decimal-most (columnOf f i + 1),
     )
-text-length f (refused number place) p t h k = omega (arith, refused-length number place)
 
 -- an accepted film's report
 film-fits : (f : Film) → Accepted f → length (filmReport f) ≤ longestReport
@@ -266,6 +267,6 @@ film-fits f A =
 pub report-fits : (bytes : List ℕ) → Bytes bytes → length (reportOf bytes) ≤ longestReport
 report-fits bytes B = go (readFilm bytes) refl
   where
-    go : (r : Reading) → readFilm bytes ≡ r → length (reportBy r) ≤ longestReport
-    go (accepted g) e = let v = read-values bytes g B e in film-fits (formed g) (formed-accepted g (v .0) (v .1))
-    go (Reading.refused number place) e = omega (arith, refused-length number place)
+    go : (r : Answer Gauge) → readFilm bytes ≡ r → length (reportBy r) ≤ longestReport
+    go (answered g) e = let v = read-values bytes g B e in film-fits (formed g) (formed-accepted g (v .0) (v .1))
+    go (refused number place) e = omega (arith, refused-length number place)

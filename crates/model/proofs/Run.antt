@@ -1,10 +1,11 @@
 -- Runs: each order names every cell once, the program's own proposals are sound, and a run on an accepted film is a good call: Done
 -- leaves the least field at or above the start that meets the film, and Over means that no field at or above the start meets it.
 use mathlib.Core.Path.{_≡_, refl}
-use mathlib.Core.Bool.{Bool, true, false}
+use mathlib.Core.Bool.{Bool, true, false, cond}
 use mathlib.Core.List.{List}
 use Prim.Native.Nat.{ℕ, zero, suc, _+_, _-_, _*_, _≤_, _<_}
 use native.Mathlib.Omega.{arith}
+use lib.Dec.{leb}
 use lib.ListN.{length}
 use Rattle.monotone.specs.Field.{total}
 use Rattle.monotone.specs.Rule.{Rule, Bounded, Rises, LeastAbove}
@@ -19,8 +20,7 @@ use Rattle.monotone.proofs.History.{good-sweep, call-visits}
 use Rattle.model.specs.Film.{Film, sizeOf, rule}
 use Rattle.model.specs.Proposal.{lineStart}
 use Rattle.model.specs.Estimate.{estimate, estimateAt}
-use Rattle.model.specs.Run.{evenCell, orderOf, ordering, Readied, proposeOwn, proposeLines, readied, RunAnswer, done, stopped, over, refused, countsOf, endOf, run}
-use Rattle.model.specs.History.{runVerdict}
+use Rattle.model.specs.Run.{evenCell, orderOf, ordering, Readied, proposeOwn, proposeLines, readied, RunAnswer, done, stopped, over, countedIn, countsOf, endOf, run}
 use Rattle.model.specs.declared.Counts.{Counts}
 use Rattle.model.proofs.Lists.{tabulate-length}
 use Rattle.model.specs.Accepted.{Accepted}
@@ -40,35 +40,23 @@ pub estimate-length : (f : Film) (p : List ℕ) (start : ℕ) → length (estima
 unfolding estimate
 estimate-length f p start = tabulate-length (f .columns) (estimateAt f p start)
 
--- a run's verdict is that of its sweep
-verdict-end : (n budget : ℕ) (a : theory.Answer) (c : Counts) → runVerdict n budget (endOf a c) ≡ verdictOf n budget a
+-- a run's verdict
+abbrev pub runVerdict : ℕ → ℕ → RunAnswer → Verdict
+runVerdict n budget (done c) = Verdict.done
+runVerdict n budget (stopped c) = cond (leb n budget) Verdict.exhausted Verdict.other
+runVerdict n budget (over i c) = Verdict.over
+
+-- is that of its sweep
+verdict-end : (n budget : ℕ) (a : theory.Ending) (c : Counts) → runVerdict n budget (endOf a c) ≡ verdictOf n budget a
 verdict-end n budget theory.done c = refl
 verdict-end n budget (theory.over i) c = refl
 verdict-end n budget theory.stopped c = refl
 
--- how many relaxations an answer counts
-abbrev pub visitsOf : RunAnswer → ℕ
-visitsOf (done c) = c .visits
-visitsOf (stopped c) = c .visits
-visitsOf (over i c) = c .visits
-visitsOf (refused number place) = 0
-
-visits-end : (a : theory.Answer) (s : theory.State) (accepted : ℕ) → visitsOf (endOf a (countsOf s accepted)) ≡ s .visits
-visits-end theory.done s accepted = refl
-visits-end (theory.over i) s accepted = refl
-visits-end theory.stopped s accepted = refl
-
--- how many raises
-abbrev pub raisesOf : RunAnswer → ℕ
-raisesOf (done c) = c .raises
-raisesOf (stopped c) = c .raises
-raisesOf (over i c) = c .raises
-raisesOf (refused number place) = 0
-
-raises-end : (a : theory.Answer) (s : theory.State) (accepted : ℕ) → raisesOf (endOf a (countsOf s accepted)) ≡ s .raises
-raises-end theory.done s accepted = refl
-raises-end (theory.over i) s accepted = refl
-raises-end theory.stopped s accepted = refl
+-- a run counts what its sweep did
+counts-end : (a : theory.Ending) (c : Counts) → countedIn (endOf a c) ≡ c
+counts-end theory.done c = refl
+counts-end (theory.over i) c = refl
+counts-end theory.stopped c = refl
 
 module _ (f : Film) (budget order : ℕ) (on : Bool) (p : List ℕ) where
   -- the counters where the run's sweep ends
@@ -77,13 +65,13 @@ module _ (f : Film) (budget order : ℕ) (on : Bool) (p : List ℕ) where
   run-counts = sweep-counts _ _ budget _
 
   -- no more relaxations than the budget, and no more raises than relaxations
-  pub run-budget : visitsOf (run f budget order on p .answer) ≤ budget
+  pub run-budget : countedIn (run f budget order on p .answer) .visits ≤ budget
   unfolding run
-  run-budget = rw visits-end (run-counts .few)
+  run-budget = rw counts-end (run-counts .few)
 
-  pub run-raises : raisesOf (run f budget order on p .answer) ≤ visitsOf (run f budget order on p .answer)
+  pub run-raises : countedIn (run f budget order on p .answer) .raises ≤ countedIn (run f budget order on p .answer) .visits
   unfolding run
-  run-raises = rw (visits-end, raises-end) (run-counts .some)
+  run-raises = rw counts-end (run-counts .some)
 
 -- a good call that is Done holds the least feasible field at or above its start
 pub good-least : {F : Rule} {p q : List ℕ} → Good F p q Verdict.done → LeastAbove F p q
@@ -95,7 +83,7 @@ good-least g =
     }
 
 -- the cell of Over, from what the sweep's answer says
-over-says : (F : Rule) (p : List ℕ) (budget : ℕ) (a : theory.Answer) (s : theory.State) (x c : Counts) (i : ℕ) → Says F p budget a s
+over-says : (F : Rule) (p : List ℕ) (budget : ℕ) (a : theory.Ending) (s : theory.State) (x c : Counts) (i : ℕ) → Says F p budget a s
     → endOf a x ≡ over i c → i < F .size
 over-says F p budget theory.done s x c i told e = let z : _≡_ {A = ℕ} 0 1 = cc in absurd (omega arith)
 over-says F p budget (theory.over j) s x c i told e = let z : j ≡ i = cc in omega (arith, told .0)
@@ -141,9 +129,9 @@ module _ (f : Film) (A : Accepted f) where
     run-good = rw verdict-end (good-sweep _ (readied-rises budget on p B) run-outcome)
 
     -- relaxations, by how far the total rose
-    pub run-visits : visitsOf (run f budget order on p .answer) ≤ sizeOf f * (1 + (total (run f budget order on p .lent) - total p))
+    pub run-visits : countedIn (run f budget order on p .answer) .visits ≤ sizeOf f * (1 + (total (run f budget order on p .lent) - total p))
     unfolding run
-    run-visits = rw visits-end (call-visits (readied-rises budget on p B) run-outcome)
+    run-visits = rw counts-end (call-visits (readied-rises budget on p B) run-outcome)
 
     -- Done holds the least field at or above the start that meets the film
     pub run-done-least : (c : Counts) → run f budget order on p .answer ≡ done c

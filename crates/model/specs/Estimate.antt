@@ -11,18 +11,17 @@ use Rattle.monotone.specs.Links.{pull}
 use Rattle.model.specs.Limits.{estimateLimit}
 use Rattle.model.specs.Lists.{tabulate}
 use Rattle.model.specs.Integers.{negative}
-use Rattle.fault.specs.Numbers.{numberOf}
-use Rattle.model.specs.Refusals.{Check, pass, fail}
+use Rattle.model.specs.Refusals.{pass}
 use Rattle.model.specs.Film.{Film, across, diagonalAt, rightAt, sourceAt, weightAt, slack}
 use Rattle.model.specs.Checks.{fieldCheck, lineCheck}
-use Rattle.model.specs.Result.{Result}
+use Rattle.model.specs.Result.{Answer, answered, refusal, Result, written, callBy}
 use Rattle.model.specs.Proposal.{lineStart}
 use Rattle.model.specs.Margin.{margin}
 use Rattle.model.specs.declared.Estimated.{Estimated}
 use Rattle.model.specs.declared.Estimated.the-variants as answers
 
-abbrev pub whole : ℕ → Float
-whole n = ofInt binary64 (pos n)
+abbrev pub floatOf : ℕ → Float
+floatOf n = ofInt binary64 (pos n)
 
 abbrev pub active : Film → List ℕ → ℕ → Bool
 active f p i = ltb 0 (getD p i 0) || negative (slack f p i)
@@ -39,7 +38,7 @@ pub data Elimination : Type 0 where
 
 -- broken, where g > 0 fails
 abbrev pub pivotIf : Float → Float → Elimination
-pivotIf g h = cond (lt (whole 0) g) (pivot g h) broken
+pivotIf g h = cond (lt (floatOf 0) g) (pivot g h) broken
 
 -- whether the cell is active, m, b, k, and what the cell before it yielded
 unfoldable pub eliminate : Bool → Float → Float → Float → Elimination → Elimination
@@ -71,7 +70,7 @@ floorOf (fin s m e) = m * up e / down e
 
 unfoldable pub wholePart : Solution → ℕ
 wholePart none = 0
-wholePart (value x) = cond (le (whole 0) x && le x (whole estimateLimit)) (floorOf x) 0
+wholePart (value x) = cond (le (floatOf 0) x && le x (floatOf estimateLimit)) (floorOf x) 0
 
 abbrev pub isBroken : Elimination → Bool
 isBroken idle = false
@@ -83,16 +82,16 @@ module _ (f : Film) (p : List ℕ) (start : ℕ) where
   unfoldable pub eliminated : ℕ → Elimination
   eliminated zero = idle
   eliminated (suc j) =
-      eliminate (active f p (start + j)) (whole (diagonalAt f (start + j))) (ofInt binary64 (rightSide f p (start + j)))
-      (whole (rightAt f (start + j - 1)))
+      eliminate (active f p (start + j)) (floatOf (diagonalAt f (start + j))) (ofInt binary64 (rightSide f p (start + j)))
+      (floatOf (rightAt f (start + j - 1)))
       (eliminated j)
 
   -- the solution in the n-th cell of the row from its end
   unfoldable pub solved : ℕ → Solution
   solved zero = none
-  solved (suc n) = substitute (eliminated (f .columns - n)) (whole (rightAt f (start + (f .columns - suc n)))) (solved n)
+  solved (suc n) = substitute (eliminated (f .columns - n)) (floatOf (rightAt f (start + (f .columns - suc n)))) (solved n)
 
-  -- what is offered in column j, counted from 0
+  -- what is proposed in column j, counted from 0
   abbrev pub estimateAt : ℕ → ℕ
   estimateAt j =
       cond (isBroken (eliminated (f .columns))) 0 (wholePart (solved (f .columns - j)) - margin f * weightAt f (start + j))
@@ -100,18 +99,11 @@ module _ (f : Film) (p : List ℕ) (start : ℕ) where
   unfoldable pub estimate : List ℕ
   estimate = tabulate (f .columns) estimateAt
 
-pub data EstimateAnswer : Type 0 where
-  written : EstimateAnswer
-  refused : ℕ → ℕ → EstimateAnswer
-
-abbrev pub estimateAnswerOf : Estimated → EstimateAnswer
-estimateAnswerOf answers.Written = written
-estimateAnswerOf (answers.Refused r) = refused (numberOf (r .fault)) (r .place)
-
-abbrev pub estimateBy : Check → Film → ℕ → List ℕ → List ℕ → Result EstimateAnswer
-estimateBy pass f line p out = record { answer = written; lent = estimate f p (lineStart f line) }
-estimateBy (fail number place) f line p out = record { answer = refused number place; lent = out }
+abbrev pub estimateAnswerOf : Estimated → Answer (Unit {0})
+estimateAnswerOf answers.Written = answered tt
+estimateAnswerOf (answers.Refused r) = refusal r
 
 -- the call that writes the estimate of a line into a slice of C numbers
-abbrev pub estimateCall : Film → ℕ → List ℕ → List ℕ → Result EstimateAnswer
-estimateCall f line p out = estimateBy (fieldCheck f p (eqb (length out) (f .columns)) pass (lineCheck f line)) f line p out
+abbrev pub estimateCall : Film → ℕ → List ℕ → List ℕ → Result (Answer (Unit {0}))
+estimateCall f line p out =
+    callBy (fieldCheck f p (eqb (length out) (f .columns)) pass (lineCheck f line)) (written (estimate f p (lineStart f line))) out

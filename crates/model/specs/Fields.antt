@@ -41,9 +41,9 @@ abbrev pub walk : List Field → List ℕ → ℕ → Check
 walk [] bytes at = pass
 walk (f ∷ fs) bytes at = fieldCheck f bytes at orElse walk fs bytes (behind at (f .size))
 
--- stray: bytes that follow the last field
-abbrev pub strayAt : List ℕ → ℕ → Check
-strayAt bytes at = failIf (ltb at (length bytes)) 2 at
+-- document 01: stray, bytes that follow the last field
+abbrev pub unexpectedAt : List ℕ → ℕ → Check
+unexpectedAt bytes at = failIf (ltb at (length bytes)) 2 at
 
 -- the bytes of a field, and of a list of fields with these bodies
 abbrev pub field : ℕ → ℕ → List ℕ → List ℕ

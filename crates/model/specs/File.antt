@@ -8,12 +8,13 @@ use lib.IntN.{ℤ, natAbs}
 use lib.ListN.{length, getD}
 use Rattle.model.specs.Limits.{thicknessLimit, wedgeLimit}
 use Rattle.model.specs.Lists.{tabulate}
-use Rattle.model.specs.Refusals.{Check, pass, fail, _orElse_, failIf, failFirst}
+use Rattle.model.specs.Refusals.{Check, _orElse_, failIf, failFirst}
 use Rattle.model.specs.Gauge.{Gauge}
 use Rattle.model.specs.Coefficients.{formed}
 use Rattle.model.specs.Checks.{outside, shapeCheck, ceilingCheck, notDominant}
+use Rattle.model.specs.Result.{Answer, answerBy}
 use Rattle.model.specs.Bytes.{byteAt, wordAt, longAt, signedOf, word, long, unsignedOf}
-use Rattle.model.specs.Fields.{Field, body, endOf, walk, strayAt, bytesOf}
+use Rattle.model.specs.Fields.{Field, body, endOf, walk, unexpectedAt, bytesOf}
 
 -- the number of cells, and of thicknesses with the boundary ring
 abbrev pub cells : ℕ → ℕ → ℕ
@@ -105,25 +106,17 @@ gaugeIn bytes =
 unfoldable pub gaugeDominance : Gauge → Check
 gaugeDominance g = failFirst (notDominant (formed g)) (g .rows * g .columns) 9 (λ i. i)
 
--- field by field, each with its values; then stray
+-- field by field, each with its values; then what follows them
 abbrev pub fieldsCheck : List Field → List ℕ → Check
-fieldsCheck fields bytes = walk fields bytes 0 orElse strayAt bytes (endOf fields 0)
+fieldsCheck fields bytes = walk fields bytes 0 orElse unexpectedAt bytes (endOf fields 0)
 
 -- the fields of the film whose shape stands in a file; then 9
 unfoldable pub fileCheck : List ℕ → Check
 fileCheck bytes = fieldsCheck (gauged (cellsIn bytes) (ringIn bytes)) bytes orElse gaugeDominance (gaugeIn bytes)
 
--- a film file is accepted, or refused with a number and a place
-pub data Reading : Type 0 where
-  accepted : Gauge → Reading
-  refused : ℕ → ℕ → Reading
-
-abbrev pub readBy : Check → List ℕ → Reading
-readBy pass bytes = accepted (gaugeIn bytes)
-readBy (fail number place) bytes = refused number place
-
-abbrev pub readFilm : List ℕ → Reading
-readFilm bytes = readBy (fileCheck bytes) bytes
+-- a film file is accepted, and its numbers are those that stand in it; or it is refused with a number and a place
+abbrev pub readFilm : List ℕ → Answer Gauge
+readFilm bytes = answerBy (fileCheck bytes) (gaugeIn bytes)
 
 -- the file of a film's numbers: its fields with these bodies
 abbrev pub weightBytes : List ℕ → List ℕ

@@ -5,13 +5,12 @@ use mathlib.Core.List.{List, _++_}
 use Prim.Native.Nat.{ℕ, _+_}
 use lib.Dec.{eqb}
 use lib.IntN.{ℤ}
-use lib.ListN.{length, drop}
-use Rattle.fault.specs.Numbers.{numberOf}
-use Rattle.model.specs.Refusals.{Check, pass, fail, _orElse_, failIf}
+use lib.ListN.{length, take, drop}
+use Rattle.model.specs.Refusals.{Check, _orElse_, failIf}
 use Rattle.model.specs.Gauge.{Gauge}
 use Rattle.model.specs.Film.{Film}
 use Rattle.model.specs.Coefficients.{formed}
-use Rattle.model.specs.Result.{Result}
+use Rattle.model.specs.Result.{Answer, answered, refusal, answerBy, kept, Result, written, callBy}
 use Rattle.model.specs.File.{cells, ringed, endOffset, gaugeIn, gaugeCheck, fileCheck, fileOf}
 use Rattle.model.specs.declared.Head.{Head}
 use Rattle.model.specs.declared.Formed.{Formed}
@@ -38,27 +37,13 @@ abbrev pub gaugeFits : Gauge → Bool
 gaugeFits g =
     eqb (length (g .weights)) (cells (g .rows) (g .columns)) && eqb (length (g .thicknesses)) (ringed (g .rows) (g .columns))
 
--- an answer without values: written, or refused with a number and a place
-pub data WriteAnswer : Type 0 where
-  written : WriteAnswer
-  refused : ℕ → ℕ → WriteAnswer
+abbrev pub formAnswerOf : Formed → Answer (Unit {0})
+formAnswerOf formeds.Written = answered tt
+formAnswerOf (formeds.Refused r) = refusal r
 
-abbrev pub formAnswerOf : Formed → WriteAnswer
-formAnswerOf formeds.Written = written
-formAnswerOf (formeds.Refused r) = refused (numberOf (r .fault)) (r .place)
-
-abbrev pub saveAnswerOf : Saved → WriteAnswer
-saveAnswerOf saveds.Written = written
-saveAnswerOf (saveds.Refused r) = refused (numberOf (r .fault)) (r .place)
-
-abbrev pub writeAnswer : Check → WriteAnswer
-writeAnswer pass = written
-writeAnswer (fail number place) = refused number place
-
--- what a lent slice holds after a call: `new` if its tests passed, and what it held if they did not
-abbrev pub kept : {A : Type 0} → Check → List A → List A → List A
-kept pass new old = new
-kept (fail number place) new old = old
+abbrev pub saveAnswerOf : Saved → Answer (Unit {0})
+saveAnswerOf saveds.Written = answered tt
+saveAnswerOf (saveds.Refused r) = refusal r
 
 -- Forming coefficients: four lent slices of exactly N.
 abbrev pub formCheck : Gauge → List ℕ → List ℕ → List ℕ → List ℤ → Check
@@ -69,9 +54,9 @@ formCheck g diagonals rights ups sources =
     && eqb (length sources) (cells (g .rows) (g .columns)))
 
 -- the call's answer and its four slices at exit, from those at entry
-pub record Forms (g : Gauge) (diagonals rights ups : List ℕ) (sources : List ℤ) (answer : WriteAnswer) (diagonals′ rights′ ups′ : List ℕ) (sources′ : List ℤ)
+pub record Forms (g : Gauge) (diagonals rights ups : List ℕ) (sources : List ℤ) (answer : Answer (Unit {0})) (diagonals′ rights′ ups′ : List ℕ) (sources′ : List ℤ)
     : Type 0 where
-  pub answer-is : answer ≡ writeAnswer (formCheck g diagonals rights ups sources)
+  pub answer-is : answer ≡ answerBy (formCheck g diagonals rights ups sources) tt
   pub diagonals-are : diagonals′ ≡ kept (formCheck g diagonals rights ups sources) (formed g .diagonals) diagonals
   pub rights-are : rights′ ≡ kept (formCheck g diagonals rights ups sources) (formed g .rights) rights
   pub ups-are : ups′ ≡ kept (formCheck g diagonals rights ups sources) (formed g .ups) ups
@@ -82,24 +67,22 @@ abbrev pub saveCheck : Gauge → List ℕ → Check
 saveCheck g out =
     gaugeCheck g (gaugeFits g && eqb (length out) (endOffset (cells (g .rows) (g .columns)) (ringed (g .rows) (g .columns))))
 
-abbrev pub saveCall : Gauge → List ℕ → Result WriteAnswer
-saveCall g out = record { answer = writeAnswer (saveCheck g out); lent = kept (saveCheck g out) (fileOf g) out }
+abbrev pub saveCall : Gauge → List ℕ → Result (Answer (Unit {0}))
+saveCall g out = callBy (saveCheck g out) (written (fileOf g)) out
 
 -- Reading: lent buffers of 1,024 weights and 1,156 thicknesses; places beyond those used keep their contents.
 pub data LoadAnswer : Type 0 where
   film : Head → ℤ → LoadAnswer
-  refused : ℕ → ℕ → LoadAnswer
 
-abbrev pub loadAnswerOf : Loaded → LoadAnswer
-loadAnswerOf (loadeds.Film h wedge) = film h wedge
-loadAnswerOf (loadeds.Refused r) = LoadAnswer.refused (numberOf (r .fault)) (r .place)
+abbrev pub loadAnswerOf : Loaded → Answer LoadAnswer
+loadAnswerOf (loadeds.Film h wedge) = answered (film h wedge)
+loadAnswerOf (loadeds.Refused r) = refusal r
 
 abbrev pub headOf : Gauge → Head
 headOf g = record { rows = g .rows; columns = g .columns; ceiling = g .ceiling }
 
-abbrev pub loadAnswer : Check → Gauge → LoadAnswer
-loadAnswer pass g = film (headOf g) (g .wedge)
-loadAnswer (fail number place) g = LoadAnswer.refused number place
+abbrev pub loadAnswer : Gauge → LoadAnswer
+loadAnswer g = film (headOf g) (g .wedge)
 
 abbrev pub loadCheck : List ℕ → List ℕ → List ℕ → Check
 loadCheck bytes weights thicknesses =
@@ -109,7 +92,12 @@ loadCheck bytes weights thicknesses =
 abbrev pub laidOver : List ℕ → List ℕ → List ℕ
 laidOver new old = new ++ drop (length new) old
 
-pub record Loads (bytes weights thicknesses : List ℕ) (answer : LoadAnswer) (weights′ thicknesses′ : List ℕ) : Type 0 where
-  pub answer-is : answer ≡ loadAnswer (loadCheck bytes weights thicknesses) (gaugeIn bytes)
+pub record Loads (bytes weights thicknesses : List ℕ) (answer : Answer LoadAnswer) (weights′ thicknesses′ : List ℕ) : Type 0 where
+  pub answer-is : answer ≡ answerBy (loadCheck bytes weights thicknesses) (loadAnswer (gaugeIn bytes))
   pub weights-are : weights′ ≡ kept (loadCheck bytes weights thicknesses) (laidOver (gaugeIn bytes .weights) weights) weights
   pub thicknesses-are : thicknesses′ ≡ kept (loadCheck bytes weights thicknesses) (laidOver (gaugeIn bytes .thicknesses) thicknesses) thicknesses
+
+-- the film whose numbers stand at the starts of a reader's buffers
+abbrev pub used : Head → ℤ → List ℕ → List ℕ → Gauge
+used h wedge weights thicknesses =
+    gaugeOf h (take (cells (h .rows) (h .columns)) weights) (take (ringed (h .rows) (h .columns)) thicknesses) wedge

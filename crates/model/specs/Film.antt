@@ -9,7 +9,7 @@ use lib.ListN.{length, getD}
 use Rattle.monotone.specs.Links.{pull}
 use Rattle.monotone.specs.Rule.{Rule}
 use Rattle.monotone.specs.Linear.{System, ruleOf}
-use Rattle.model.specs.Integers.{negative, lift, drop}
+use Rattle.model.specs.Integers.{negative, positivePart, negativePart}
 use Rattle.model.specs.declared.Head.{Head}
 
 -- coefficients and weights by cell index; an up link leads to the next row
@@ -126,8 +126,8 @@ systemOf f =
       ceiling = f .ceiling;
       links = neighbours f;
       diagonal = diagonalAt f;
-      lift = λ i. lift (sourceAt f i);
-      drop = λ i. drop (sourceAt f i);
+      positivePart = λ i. positivePart (sourceAt f i);
+      negativePart = λ i. negativePart (sourceAt f i);
     }
 
 -- the rule that a film's runs relax by

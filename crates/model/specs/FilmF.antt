@@ -8,12 +8,12 @@ use lib.ListN.{take, set}
 use Rattle.model.specs.Gauge.{Gauge}
 use Rattle.model.specs.Film.{Film, slack}
 use Rattle.model.specs.Coefficients.{formed}
-use Rattle.model.specs.Result.{Result}
+use Rattle.model.specs.Result.{Answer, answered, refused, Result}
 use Rattle.model.specs.Margin.{margin}
 use Rattle.model.specs.Estimate.{estimate}
 use Rattle.model.specs.Report.{reportOf}
 use Rattle.model.specs.Run.{RunAnswer, done, stopped, over, runCall}
-use Rattle.model.specs.File.{columnsOffset, accepted, refused, readFilm, fileOf}
+use Rattle.model.specs.File.{columnsOffset, readFilm, fileOf}
 use Rattle.model.specs.declared.Counts.{Counts}
 
 -- 1 row, 2 columns, weights 1 1, boundary rows all 1, middle row 3 2 1 1
@@ -48,13 +48,13 @@ abbrev pub ample : ℕ
 ample = 4000000
 
 -- a run with proposals off
-abbrev pub runOn : Film → ℕ → ℕ → List ℕ → Result RunAnswer
+abbrev pub runOn : Film → ℕ → ℕ → List ℕ → Result (Answer RunAnswer)
 runOn f budget order p = runCall f budget order false p
 
 -- an answer with so many relaxations and raises, and the two pressures that the run leaves
-abbrev pub ends : (Counts → RunAnswer) → ℕ → ℕ → ℕ → ℕ → Result RunAnswer
+abbrev pub ends : (Counts → RunAnswer) → ℕ → ℕ → ℕ → ℕ → Result (Answer RunAnswer)
 ends answer visits raises p q =
-    record { answer = answer (record { visits = visits; raises = raises; accepted = 0 }); lent = p ∷ q ∷ [] }
+    record { answer = answered (answer (record { visits = visits; raises = raises; accepted = 0 })); lent = p ∷ q ∷ [] }
 
 abbrev pub slacks : Film → List ℕ → List ℤ
 slacks f p = slack f p 0 ∷ slack f p 1 ∷ []
@@ -80,7 +80,7 @@ pub record Edges : Type 0 where
 
 -- the film's file is accepted and is what the writer makes, and the lines about files that differ from it
 pub record FileEdges : Type 0 where
-  pub reads : readFilm bytesF ≡ accepted (gaugeF 100 (pos 100))
+  pub reads : readFilm bytesF ≡ answered (gaugeF 100 (pos 100))
   pub writes : fileOf (gaugeF 100 (pos 100)) ≡ bytesF
   pub empty : readFilm [] ≡ refused 1 0
   pub without-last : readFilm (take 40 bytesF) ≡ refused 1 40
@@ -101,13 +101,13 @@ reportF =
     ++ (49 ∷ 32 ∷ 50 ∷ 32 ∷ 52 ∷ 32 ∷ 53 ∷ 48 ∷ 10 ∷ [])
     ++ (80 ∷ 69 ∷ 65 ∷ 75 ∷ 32 ∷ 49 ∷ 32 ∷ 50 ∷ 32 ∷ 52 ∷ 10 ∷ [])
 
--- the unstarred line with proposals on: wedge 100,000, ceiling 5,000; the row offers 1317 2657
+-- the unstarred line with proposals on: wedge 100,000, ceiling 5,000; the estimate of the row is 1317 2657
 abbrev pub steep : Film
 steep = formed (gaugeF 5000 (pos 100000))
 
 -- the text of the report, and the estimate and the run of the unstarred line
 pub record Computed : Type 0 where
   pub report : reportOf bytesF ≡ reportF
-  pub offered : estimate steep zero-field 0 ≡ 1317 ∷ 2657 ∷ []
+  pub estimated : estimate steep zero-field 0 ≡ 1317 ∷ 2657 ∷ []
   pub proposals-on : runCall steep ample 0 true zero-field
-      ≡ record { answer = done (record { visits = 4; raises = 2; accepted = 2 }); lent = 1320 ∷ 2660 ∷ [] }
+      ≡ record { answer = answered (done (record { visits = 4; raises = 2; accepted = 2 })); lent = 1320 ∷ 2660 ∷ [] }

@@ -14,11 +14,11 @@ atMostZero (pos zero) = true
 atMostZero (pos (suc n)) = false
 atMostZero (negsuc n) = true
 
--- z = lift z − drop z, and one of them is 0
-abbrev pub lift : ℤ → ℕ
-lift (pos n) = n
-lift (negsuc n) = 0
+-- z = positivePart z − negativePart z, and one of them is 0
+abbrev pub positivePart : ℤ → ℕ
+positivePart (pos n) = n
+positivePart (negsuc n) = 0
 
-abbrev pub drop : ℤ → ℕ
-drop (pos n) = 0
-drop (negsuc n) = suc n
+abbrev pub negativePart : ℤ → ℕ
+negativePart (pos n) = 0
+negativePart (negsuc n) = suc n

@@ -1,16 +1,16 @@
 -- Document 01, "A line offer", first paragraph: the exact test of a line proposal.
-use mathlib.Core.Bool.{Bool, not, cond, _&&_, _||_}
+use mathlib.Core.Path.{_≡_}
+use mathlib.Core.Bool.{Bool, true, not, cond, _&&_, _||_}
 use mathlib.Core.List.{List}
-use Prim.Native.Nat.{ℕ, _+_, _-_, _*_, max}
+use Prim.Native.Nat.{ℕ, _+_, _-_, _*_, _≤_, _<_, max}
 use lib.Dec.{leb, ltb, eqb}
 use lib.ListN.{length, getD}
 use Rattle.model.specs.Lists.{tabulate, countBelow, allBelow}
 use Rattle.model.specs.Integers.{atMostZero}
-use Rattle.fault.specs.Numbers.{numberOf}
-use Rattle.model.specs.Refusals.{Check, pass, fail}
+use Rattle.model.specs.Refusals.{pass}
 use Rattle.model.specs.Film.{Film, sizeOf, slack}
 use Rattle.model.specs.Checks.{fieldCheck, lineCheck}
-use Rattle.model.specs.Result.{Result}
+use Rattle.model.specs.Result.{Answer, answered, refusal, Result, callBy}
 use Rattle.model.specs.declared.Proposed.{Proposed}
 use Rattle.model.specs.declared.Proposed.the-variants as answers
 
@@ -44,16 +44,22 @@ tight f start p q = allBelow (λ j. not (rises p q (start + j)) || atMostZero (s
 abbrev pub accepts : Film → ℕ → List ℕ → List ℕ → Bool
 accepts f start p q = ltb 0 (riseCount f start p q) && withinCeiling f start q && tight f start p q
 
+-- document 01's condition in its words, which the test is (`accept-condition`): at least one cell of the row rises, none exceeds the ceiling,
+-- and every cell that rises has a slack of at most 0 in the new field
+pub record Acceptable (f : Film) (start : ℕ) (p q : List ℕ) : Type 0 where
+  pub some : (j : ℕ) × (j < f .columns) × (getD p (start + j) 0 < getD q (start + j) 0)
+  pub low : (j : ℕ) → j < f .columns → getD q (start + j) 0 ≤ f .ceiling
+  pub tight : (j : ℕ) → j < f .columns → getD p (start + j) 0 < getD q (start + j) 0 → atMostZero (slack f q (start + j)) ≡ true
+
 -- document 01: Taken with the number of cells raised, or Declined
 pub data ProposalAnswer : Type 0 where
   accepted : ℕ → ProposalAnswer
   rejected : ProposalAnswer
-  refused : ℕ → ℕ → ProposalAnswer
 
-abbrev pub proposalAnswerOf : Proposed → ProposalAnswer
-proposalAnswerOf (answers.Accepted cells) = accepted cells
-proposalAnswerOf answers.Rejected = rejected
-proposalAnswerOf (answers.Refused r) = refused (numberOf (r .fault)) (r .place)
+abbrev pub proposalAnswerOf : Proposed → Answer ProposalAnswer
+proposalAnswerOf (answers.Accepted cells) = answered (accepted cells)
+proposalAnswerOf answers.Rejected = answered rejected
+proposalAnswerOf (answers.Refused r) = refusal r
 
 -- the new field q in place of p, or p
 abbrev pub decide : Bool → Film → ℕ → List ℕ → List ℕ → Result ProposalAnswer
@@ -64,11 +70,7 @@ decide taken f start p q =
 unfoldable pub propose : Film → ℕ → List ℕ → List ℕ → Result ProposalAnswer
 propose f start proposal p = decide (accepts f start p (raisedBy f start proposal p)) f start p (raisedBy f start proposal p)
 
-abbrev pub proposeBy : Check → Film → ℕ → List ℕ → List ℕ → Result ProposalAnswer
-proposeBy pass f line proposal p = propose f (lineStart f line) proposal p
-proposeBy (fail number place) f line proposal p = record { answer = refused number place; lent = p }
-
 -- the call that proposes pressures for a line of the field p
-abbrev pub proposeCall : Film → ℕ → List ℕ → List ℕ → Result ProposalAnswer
+abbrev pub proposeCall : Film → ℕ → List ℕ → List ℕ → Result (Answer ProposalAnswer)
 proposeCall f line proposal p =
-    proposeBy (fieldCheck f p (eqb (length proposal) (f .columns)) pass (lineCheck f line)) f line proposal p
+    callBy (fieldCheck f p (eqb (length proposal) (f .columns)) pass (lineCheck f line)) (propose f (lineStart f line) proposal p) p

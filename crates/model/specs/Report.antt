@@ -1,15 +1,16 @@
 -- Document 01, "The report": the text's bytes, from the file's bytes.
 use mathlib.Core.Bool.{false, cond}
 use mathlib.Core.List.{List, [], _∷_, _++_}
-use Prim.Native.Nat.{ℕ, zero, suc, _+_, _/_, _%_}
+use Prim.Native.Nat.{ℕ, zero, suc, _+_, _/_, _%_, _≤_, _<_}
 use lib.Dec.{ltb}
 use lib.IntN.{ℤ, pos, negsuc}
 use lib.ListN.{getD, replicate}
+use Rattle.model.specs.Gauge.{Gauge}
 use Rattle.model.specs.Film.{Film, sizeOf, rowOf, columnOf, slack}
 use Rattle.model.specs.Coefficients.{formed}
-use Rattle.model.specs.Result.{Result}
-use Rattle.model.specs.Run.{RunAnswer, done, stopped, over, refused, run}
-use Rattle.model.specs.File.{Reading, accepted, readFilm}
+use Rattle.model.specs.Result.{Answer, answered, refused, Result}
+use Rattle.model.specs.Run.{RunAnswer, done, stopped, over, run}
+use Rattle.model.specs.File.{readFilm}
 use Rattle.model.specs.declared.Counts.{Counts}
 
 -- a number in decimal, with at most as many digits as said
@@ -67,6 +68,12 @@ unfoldable pub peakOf : List ℕ → ℕ → ℕ
 peakOf p zero = 0
 peakOf p (suc n) = higher p (peakOf p n) n
 
+-- document 01's peak in its words, which that is (`peak-is`): one of n cells, the greatest pressure, the lowest index of equals
+pub record Peak (p : List ℕ) (n top : ℕ) : Type 0 where
+  pub inside : top < n
+  pub greatest : (i : ℕ) → i < n → getD p i 0 ≤ getD p top 0
+  pub lowest : (i : ℕ) → i < top → getD p i 0 < getD p top 0
+
 module _ (f : Film) (p : List ℕ) where
   abbrev pub cellLine : ℕ → List ℕ
   cellLine i = line (placeText f i ␣ decimal (getD p i 0) ␣ signed (slack f p i))
@@ -93,7 +100,6 @@ abbrev pub answerText : Film → RunAnswer → List ℕ → List ℕ
 answerText f (done c) p = answerLine doneWord c ++ fieldText f p
 answerText f (stopped c) p = answerLine stoppedWord c ++ fieldText f p
 answerText f (over i c) p = answerLine overWord c ++ line (placeText f i)
-answerText f (refused number place) p = refusedLine number place
 
 abbrev pub headLine : Film → List ℕ
 headLine f = line (filmWord ␣ decimal (f .rows) ␣ decimal (f .columns) ␣ ceilingWord ␣ decimal (f .ceiling))
@@ -108,10 +114,15 @@ reportRun f = run f reportBudget 0 false (replicate (sizeOf f) 0)
 abbrev pub filmReport : Film → List ℕ
 filmReport f = headLine f ++ answerText f (reportRun f .answer) (reportRun f .lent)
 
-abbrev pub reportBy : Reading → List ℕ
-reportBy (accepted g) = filmReport (formed g)
-reportBy (Reading.refused number place) = refusedLine number place
+abbrev pub reportBy : Answer Gauge → List ℕ
+reportBy (answered g) = filmReport (formed g)
+reportBy (refused number place) = refusedLine number place
 
 -- the report of a file
 abbrev pub reportOf : List ℕ → List ℕ
 reportOf bytes = reportBy (readFilm bytes)
+
+-- as many bytes of a file as decide its report (`report-prefix`): one more than the longest accepted file, which has
+-- 25 + 2 × 1,024 + 34 × 34 = 3,229
+abbrev pub enough : ℕ
+enough = 3230

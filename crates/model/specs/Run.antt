@@ -5,11 +5,10 @@ use Prim.Native.Nat.{ℕ, zero, suc, _+_, _-_, _/_, _%_}
 use lib.Dec.{eqb}
 use Rattle.monotone.specs.Ordering.{splitOrder}
 use Rattle.monotone.specs.Sweep as theory
-use Rattle.fault.specs.Numbers.{numberOf}
-use Rattle.model.specs.Refusals.{Check, pass, fail}
+use Rattle.model.specs.Refusals.{pass}
 use Rattle.model.specs.Film.{Film, sizeOf, rule}
 use Rattle.model.specs.Checks.{fieldCheck, orderCheck}
-use Rattle.model.specs.Result.{Result}
+use Rattle.model.specs.Result.{Answer, answered, refusal, Result, callBy}
 use Rattle.model.specs.Proposal.{ProposalAnswer, propose, lineStart}
 use Rattle.model.specs.Estimate.{estimate}
 use Rattle.model.specs.declared.Counts.{Counts}
@@ -37,14 +36,13 @@ pub record Readied : Type 0 where
 abbrev pub cellsOf : ProposalAnswer → ℕ
 cellsOf (ProposalAnswer.accepted cells) = cells
 cellsOf ProposalAnswer.rejected = 0
-cellsOf (ProposalAnswer.refused number place) = 0
 
-abbrev pub count : Result ProposalAnswer → ℕ → Readied
-count r before = record { field = r .lent; accepted = before + cellsOf (r .answer) }
+abbrev pub tallied : Result ProposalAnswer → ℕ → Readied
+tallied r before = record { field = r .lent; accepted = before + cellsOf (r .answer) }
 
 -- the program's own proposal for a line, worked from the field as it then is
 unfoldable pub proposeOwn : Film → ℕ → Readied → Readied
-proposeOwn f line s = count (propose f (lineStart f line) (estimate f (s .field) (lineStart f line)) (s .field)) (s .accepted)
+proposeOwn f line s = tallied (propose f (lineStart f line) (estimate f (s .field) (lineStart f line)) (s .field)) (s .accepted)
 
 -- lines 1 to n in turn
 unfoldable pub proposeLines : Film → ℕ → Readied → Readied
@@ -57,22 +55,28 @@ readied f zero on p = record { field = p; accepted = 0 }
 readied f (suc budget) true p = proposeLines f (f .rows) (record { field = p; accepted = 0 })
 readied f (suc budget) false p = record { field = p; accepted = 0 }
 
+-- what a run answers
 pub data RunAnswer : Type 0 where
   done : Counts → RunAnswer
   stopped : Counts → RunAnswer
   over : ℕ → Counts → RunAnswer
-  refused : ℕ → ℕ → RunAnswer
 
-abbrev pub runAnswerOf : Ran → RunAnswer
-runAnswerOf (answers.Done c) = done c
-runAnswerOf (answers.Stopped c) = stopped c
-runAnswerOf (answers.Over cell c) = over cell c
-runAnswerOf (answers.Refused r) = refused (numberOf (r .fault)) (r .place)
+abbrev pub runAnswerOf : Ran → Answer RunAnswer
+runAnswerOf (answers.Done c) = answered (done c)
+runAnswerOf (answers.Stopped c) = answered (stopped c)
+runAnswerOf (answers.Over cell c) = answered (over cell c)
+runAnswerOf (answers.Refused r) = refusal r
+
+-- and counts
+abbrev pub countedIn : RunAnswer → Counts
+countedIn (done c) = c
+countedIn (stopped c) = c
+countedIn (over i c) = c
 
 abbrev pub countsOf : theory.State → ℕ → Counts
 countsOf s accepted = record { visits = s .visits; raises = s .raises; accepted = accepted }
 
-abbrev pub endOf : theory.Answer → Counts → RunAnswer
+abbrev pub endOf : theory.Ending → Counts → RunAnswer
 endOf theory.done c = done c
 endOf (theory.over i) c = over i c
 endOf theory.stopped c = stopped c
@@ -86,10 +90,6 @@ run f budget order on p =
     ended (theory.sweep (rule f) (ordering f order) budget (theory.begin (readied f budget on p .field)))
     (readied f budget on p .accepted)
 
-abbrev pub runBy : Check → Film → ℕ → ℕ → Bool → List ℕ → Result RunAnswer
-runBy pass f budget order on p = run f budget order on p
-runBy (fail number place) f budget order on p = record { answer = refused number place; lent = p }
-
 -- the call that makes a run on the field p
-abbrev pub runCall : Film → ℕ → ℕ → Bool → List ℕ → Result RunAnswer
-runCall f budget order on p = runBy (fieldCheck f p true (orderCheck order) pass) f budget order on p
+abbrev pub runCall : Film → ℕ → ℕ → Bool → List ℕ → Result (Answer RunAnswer)
+runCall f budget order on p = callBy (fieldCheck f p true (orderCheck order) pass) (run f budget order on p) p

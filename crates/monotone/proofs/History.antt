@@ -1,8 +1,8 @@
--- What holds of any list of calls, where each call by itself is good (`history`); and that a least field exists or none is feasible.
+-- What holds of any list of steps from a start, where each step by itself is good (`history`); and that a least field exists or none is feasible.
 use mathlib.Core.Path.{_≡_, refl, sym, _∙_}
 use mathlib.Core.Logic.{_⊎_, inl, inr}
 use mathlib.Core.Bool.{Bool, true, false, cond}
-use mathlib.Core.List.{List, [], _∷_, _++_}
+use mathlib.Core.List.{List, [], _∷_}
 use Prim.Native.Nat.{ℕ, zero, suc, _+_, _-_, _*_, _≤_, _<_, zero-le}
 use native.Mathlib.Nat.{le-trans, mul-le-mul-left}
 use native.Mathlib.Omega.{arith}
@@ -11,9 +11,9 @@ use lib.Dec.{leb}
 use lib.ListN.{getD, replicate, length-replicate}
 use Rattle.monotone.specs.Field.{total, _⊑_}
 use Rattle.monotone.specs.Rule.{Rule, Monotone, Bounded, Feasible, Start, Rises, Least}
-use Rattle.monotone.specs.Sweep.{Answer, done, over, stopped, Swept}
+use Rattle.monotone.specs.Sweep.{Ending, done, over, stopped, Swept}
 use Rattle.monotone.specs.Outcome.{Says, Outcome}
-use Rattle.monotone.specs.History.{Verdict, Caller, Told, Good, verdictOf, countOf, zeros, played, exhaustions, Promise}
+use Rattle.monotone.specs.History.{Verdict, Told, Good, verdictOf, countOf, zeros, Each, exhaustions, Promise}
 use Rattle.monotone.proofs.Order.{feasible-satisfied, ⊑-antisym, total-mono, bounded-total, rises-refl, rises-trans}
 use Rattle.monotone.proofs.Ordering.{permutes-up}
 use Rattle.monotone.proofs.Sweep.{sweep-outcome, visits-bound}
@@ -59,7 +59,7 @@ good-sweep {F} {p} {q} {budget} r A O =
     covered true e h = omega (arith, h (leb-true _ _ e), O .risen .gain, total-mono (A .rose))
     covered false e h = tt
 
-    by : (x : Answer) → Says F q budget x (r .last) → Told F p (r .last .field) (verdictOf (F .size) budget x)
+    by : (x : Ending) → Says F q budget x (r .last) → Told F p (r .last .field) (verdictOf (F .size) budget x)
     by done h = h
     by (over i) h = λ z M l. h .2 z M (A .under z (feasible-satisfied M) l)
     by stopped h = covered (leb (F .size) budget) refl (h .1)
@@ -80,7 +80,7 @@ least-or-none F M = go _ (sweep-outcome F (λ k. k) M (permutes-up (F .size)) (z
     go : (r : Swept) → Outcome F (zeros F) budget r → ((q : List ℕ) × Least F q) ⊎ ((z : List ℕ) → Feasible F z → ⊥)
     go r O = by (r .answer) (O .says)
       where
-        by : (x : Answer) → Says F (zeros F) budget x (r .last) → ((q : List ℕ) × Least F q) ⊎ ((z : List ℕ) → Feasible F z → ⊥)
+        by : (x : Ending) → Says F (zeros F) budget x (r .last) → ((q : List ℕ) × Least F q) ⊎ ((z : List ℕ) → Feasible F z → ⊥)
         by done h =
             inl (r .last .field, record { feasible = h; under = λ z M. O .risen .rises .under z (feasible-satisfied M) (zeros-under F z) })
         by (over i) h = inr (λ z M. h .2 z M (zeros-under F z))
@@ -106,42 +106,61 @@ good-gain Verdict.over g = omega (arith, total-mono (g .rises .rose))
 good-gain Verdict.exhausted g = omega (arith, g .told)
 good-gain Verdict.other g = omega (arith, total-mono (g .rises .rose))
 
-module _ (F : Rule) {C : Type 0} (m : Caller C) (good : (c : C) (p : List ℕ) → Bounded F p → Good F p (m .after c p) (m .verdict c p)) where
-  played-rises : (cs : List C) (p : List ℕ) → Bounded F p → Rises F p (played m cs p)
-  played-rises [] p f = rises-refl f
-  played-rises (c ∷ cs) p f =
-      rises-trans ((good c p f) .rises) (played-rises cs (m .after c p) ((good c p f) .rises .bounded))
+-- of each step: P gives Q, and P and R give Q
+module _ {S : Type 0} (exit : S → List ℕ) where
+  pub each-map : {P Q : List ℕ → S → Type 0} → ((entry : List ℕ) (s : S) → P entry s → Q entry s) → (entry : List ℕ) (ss : List S)
+      → Each exit P entry ss → Each exit Q entry ss
+  each-map h entry [] all = tt
+  each-map h entry (s ∷ ss) all = (h entry s (all .0), each-map h (exit s) ss (all .1))
 
-  played-more : (cs ds : List C) (p : List ℕ) → played m (cs ++ ds) p ≡ played m ds (played m cs p)
-  played-more [] ds p = refl
-  played-more (c ∷ cs) ds p = played-more cs ds (m .after c p)
+  pub each-both : {P R Q : List ℕ → S → Type 0} → ((entry : List ℕ) (s : S) → P entry s → R entry s → Q entry s) → (entry : List ℕ) (ss : List S)
+      → Each exit P entry ss → Each exit R entry ss → Each exit Q entry ss
+  each-both h entry [] all others = tt
+  each-both h entry (s ∷ ss) all others = (h entry s (all .0) (others .0), each-both h (exit s) ss (all .1) (others .1))
 
-  exhaustions-gain : (cs : List C) (p : List ℕ) → Bounded F p → exhaustions m cs p + total p ≤ total (played m cs p)
-  exhaustions-gain [] p f = omega arith
-  exhaustions-gain (c ∷ cs) p f =
-      omega (arith, good-gain (m .verdict c p) (good c p f), exhaustions-gain cs (m .after c p) ((good c p f) .rises .bounded))
+module _ (F : Rule) {S : Type 0} (exit : S → List ℕ) (verdict : S → Verdict) where
+  -- a step is good on a bounded field
+  abbrev pub GoodStep : List ℕ → S → Type 0
+  GoodStep entry s = Bounded F entry → Good F entry (exit s) (verdict s)
 
-  module _ (s : List ℕ) (S : Start F s) where
-    from : (cs : List C) → Rises F s (played m cs s)
-    from cs = played-rises cs s (S .bounded)
+  module _ {p : List ℕ} (start : Start F p) where
+    -- the field that a step takes up has come from the start, and the step is good
+    record Reached (entry : List ℕ) (s : S) : Type 0 where
+      from : Rises F p entry
+      good : Good F entry (exit s) (verdict s)
 
-    -- the next call, by its verdict
-    good-as : (cs : List C) (c : C) {v : Verdict} → m .verdict c (played m cs s) ≡ v
-        → Good F (played m cs s) (m .after c (played m cs s)) v
-    good-as cs c e = rw e at (good c (played m cs s) ((from cs) .bounded))
+    reached : (entry : List ℕ) (ss : List S) → Rises F p entry → Each exit GoodStep entry ss → Each exit Reached entry ss
+    reached entry [] R all = tt
+    reached entry (s ∷ ss) R all =
+        let g = (all .0) (R .bounded) in
+        (record { from = R; good = g }, reached (exit s) ss (rises-trans R (g .rises)) (all .1))
 
-    left-least : (cs : List C) (c : C) → m .verdict c (played m cs s) ≡ Verdict.done → Least F (m .after c (played m cs s))
-    left-least cs c e = good-done S (from cs) (good-as cs c e)
+    below : (entry : List ℕ) (s : S) → Reached entry s → (z : List ℕ) → Feasible F z → exit s ⊑ z
+    below entry s R z M = R .good .rises .under z (feasible-satisfied M) (reached-under start (R .from) z M)
 
-    pub history : Monotone F → Promise F m s
-    history M =
+    -- so many are exhausted as any bound on every step's field allows
+    counted : (bound : ℕ) (entry : List ℕ) (ss : List S) → total entry ≤ bound → Each exit Reached entry ss
+        → Each exit (λ _ s. total (exit s) ≤ bound) entry ss → exhaustions verdict ss + total entry ≤ bound
+    counted bound entry [] l all low = omega arith
+    counted bound entry (s ∷ ss) l all low =
+        omega (arith, good-gain (verdict s) (all .0 .good), counted bound (exit s) ss (low .0) (all .1) (low .1))
+
+    -- Every list of good steps from a start keeps the promise.
+    pub history : (ss : List S) → Each exit GoodStep p ss → Promise F exit verdict p ss
+    history ss steps =
+        let all = reached p ss (rises-refl (start .bounded)) steps in
         record {
-          rising = λ cs ds. rw (played-more cs ds s) ((played-rises ds _ ((from cs) .bounded)) .rose);
-          under = λ cs. reached-under S (from cs);
-          least = left-least;
-          same = λ cs ds c d e f. least-one (left-least cs c e) (left-least ds d f);
-          none = λ cs c e. good-over S (from cs) (good-as cs c e);
-          few = λ cs z f. le-trans (exhaustions-gain cs s (S .bounded)) (total-mono (reached-under S (from cs) z f));
-          few-ever = λ cs. le-trans (exhaustions-gain cs s (S .bounded)) (bounded-total ((from cs) .bounded));
-          either = least-or-none F M;
+          bounded = each-map exit (λ entry s R. R .from .bounded) p ss all;
+          rising = each-map exit (λ entry s R. R .good .rises .rose) p ss all;
+          under = each-map exit below p ss all;
+          least = each-map exit (λ entry s R e. good-done start (R .from) (rw e at (R .good))) p ss all;
+          none = each-map exit (λ entry s R e. good-over start (R .from) (rw e at (R .good))) p ss all;
+          few = λ z M. counted (total z) p ss (total-mono (start .under z M)) all (each-map exit (λ entry s R. total-mono (below entry s R z M)) p ss all);
+          few-ever = counted (F .size * F .ceiling) p ss (bounded-total (start .bounded)) all (each-map exit (λ entry s R. bounded-total (R .good .rises .bounded)) p ss all);
         }
+
+  -- any two Done, in one list or in two, leave the same field
+  pub history-same : {p q : List ℕ} {ss ts : List S} → Promise F exit verdict p ss → Promise F exit verdict q ts
+      → Each exit (λ _ s. Each exit (λ _ t. verdict s ≡ Verdict.done → verdict t ≡ Verdict.done → exit s ≡ exit t) q ts) p ss
+  history-same {p} {q} {ss} {ts} A B =
+      each-map exit (λ _ s least. each-map exit (λ _ t other d e. least-one (least d) (other e)) q ts (B .least)) p ss (A .least)

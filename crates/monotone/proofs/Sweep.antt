@@ -13,7 +13,7 @@ use lib.ListN.{getD, length-set}
 use Rattle.monotone.specs.Field.{total, _⊑_}
 use Rattle.monotone.specs.Rule.{Rule, Monotone, Bounded, Satisfied, Feasible, LeastAbove}
 use Rattle.monotone.specs.Ordering.{Permutes}
-use Rattle.monotone.specs.Sweep.{Relaxation, quiet, raise, exceed, Answer, done, over, stopped, State, Swept, relax, next, begin, cellOf, relaxOf, kept, raised, close, turn, sweep}
+use Rattle.monotone.specs.Sweep.{Relaxation, quiet, raise, exceed, Ending, done, over, stopped, State, Swept, relax, next, begin, cellOf, relaxOf, kept, raised, close, turn, sweep}
 use Rattle.monotone.specs.Outcome.{Risen, Says, Outcome}
 use Rattle.monotone.proofs.Order.{feasible-satisfied, rises-refl, ⊑-trans, raise-⊑, raise-under, set-under, total-set}
 use Rattle.monotone.proofs.Compare.{pos-right}
@@ -164,7 +164,7 @@ module _ (F : Rule) (order : ℕ → ℕ) (M : Monotone F) (N : Permutes (F .siz
 
 -- What follows, by the answer.
 module _ {F : Rule} {p : List ℕ} {a : ℕ} {r : Swept} (O : Outcome F p a r) where
-  says : (x : Answer) → r .answer ≡ x → Says F p a x (r .last)
+  says : (x : Ending) → r .answer ≡ x → Says F p a x (r .last)
   says x e = subst (λ y. Says F p a y (r .last)) e (O .says)
 
   -- relaxations, by how far the total rose
@@ -206,10 +206,10 @@ module _ (F : Rule) (order : ℕ → ℕ) (a : ℕ) where
     count-turn raise = on (raised F order s) (omega arith) (omega arith)
     count-turn exceed = record { few = omega arith; some = omega arith }
 
-  count : (b : ℕ) (s : State) → s .visits + b ≡ a → s .raises ≤ s .visits → Counted a (sweep F order b s .last)
+  counted : (b : ℕ) (s : State) → s .visits + b ≡ a → s .raises ≤ s .visits → Counted a (sweep F order b s .last)
   unfolding sweep
-  count zero s e h = record { few = omega arith; some = h }
-  count (suc b) s e h = count-turn b s e h (sweep F order b) (count b) (relaxOf F order s)
+  counted zero s e h = record { few = omega arith; some = h }
+  counted (suc b) s e h = count-turn b s e h (sweep F order b) (counted b) (relaxOf F order s)
 
   pub sweep-counts : (p : List ℕ) → Counted a (sweep F order a (begin p) .last)
-  sweep-counts p = count a (begin p) (omega arith) (omega arith)
+  sweep-counts p = counted a (begin p) (omega arith) (omega arith)

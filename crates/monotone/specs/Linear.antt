@@ -5,33 +5,33 @@ use lib.ListN.{getD}
 use Rattle.monotone.specs.Links.{pull}
 use Rattle.monotone.specs.Rule.{Rule}
 
--- a source is lift − drop, so that all numbers are natural
+-- a source is its positive part less its negative part, so that all numbers are natural
 pub record System : Type 0 where
   pub size : ℕ
   pub ceiling : ℕ
   pub links : ℕ → List (ℕ × ℕ)
   pub diagonal : ℕ → ℕ
-  pub lift : ℕ → ℕ
-  pub drop : ℕ → ℕ
+  pub positivePart : ℕ → ℕ
+  pub negativePart : ℕ → ℕ
 
--- what cell i has to bear: its neighbours' pull and the negative part of its source
-abbrev pub load : System → List ℕ → ℕ → ℕ
-load S p i = pull (S .links i) (λ j. getD p j 0) + S .drop i
+-- The terms of cell i's slack in a field, which is the positive ones less the negative ones: its neighbours' pull and the negative part of
+-- its source; diagonal × pressure and the positive part.
+abbrev pub negativeTerms : System → List ℕ → ℕ → ℕ
+negativeTerms S p i = pull (S .links i) (λ j. getD p j 0) + S .negativePart i
 
--- what bears it, in a field: diagonal × pressure and the positive part of the source. Slack = bearing − load
-abbrev pub bearing : System → List ℕ → ℕ → ℕ
-bearing S p i = S .diagonal i * getD p i 0 + S .lift i
+abbrev pub positiveTerms : System → List ℕ → ℕ → ℕ
+positiveTerms S p i = S .diagonal i * getD p i 0 + S .positivePart i
 
--- the least pressure v with load ≤ diagonal × v + lift
+-- the least pressure v with negative ≤ diagonal × v + positive
 abbrev pub requiredOf : ℕ → ℕ → ℕ → ℕ
-requiredOf diagonal lift load = (load - lift + (diagonal - 1)) / diagonal
+requiredOf diagonal positive negative = (negative - positive + (diagonal - 1)) / diagonal
 
 abbrev pub ruleOf : System → Rule
 ruleOf S =
     record {
       size = S .size;
       ceiling = S .ceiling;
-      required = λ p i. requiredOf (S .diagonal i) (S .lift i) (load S p i);
+      required = λ p i. requiredOf (S .diagonal i) (S .positivePart i) (negativeTerms S p i);
     }
 
 -- what relaxations alone ask of a system

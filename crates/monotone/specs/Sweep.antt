@@ -10,10 +10,10 @@ use Rattle.monotone.specs.Rule.{Rule}
 pub data Relaxation : Type 0 where
   quiet raise exceed : Relaxation
 
-pub data Answer : Type 0 where
-  done : Answer
-  over : ℕ → Answer
-  stopped : Answer
+pub data Ending : Type 0 where
+  done : Ending
+  over : ℕ → Ending
+  stopped : Ending
 
 -- `quiets` counts the quiet relaxations since the last raise; `place` is the next place of the ordering
 pub record State : Type 0 where
@@ -24,7 +24,7 @@ pub record State : Type 0 where
   pub place : ℕ
 
 pub record Swept : Type 0 where
-  pub answer : Answer
+  pub answer : Ending
   pub last : State
 
 abbrev pub relax : ℕ → ℕ → ℕ → Relaxation

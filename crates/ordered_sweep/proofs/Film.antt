@@ -11,7 +11,7 @@ use Rattle.monotone.proofs.Sweep.{sweep-counts}
 use Rattle.model.specs.Lists.{tabulate}
 use Rattle.model.specs.Film.{Film, sizeOf, rule, beside, across, neighbours}
 use Rattle.model.specs.Accepted.{Limited}
-use Rattle.model.specs.Result.{Gives}
+use Rattle.model.specs.Result.{Answer, answered, passed, Gives}
 use Rattle.model.specs.Run.{RunAnswer, countsOf, endOf, ended, ordering}
 use Rattle.model.specs.declared.Counts.{Counts}
 use Rattle.model.proofs.Bare.{bare}
@@ -32,17 +32,17 @@ module _ (f : Film) (l : Limited f) where
     pub cells-some : 0 < length p
     cells-some = rw n some
 
-    pub run-gives : (budget accepted : ℕ) (s : Swept) (a : RunAnswer) (exit : List ℕ)
+    pub run-gives : (budget accepted : ℕ) (s : Swept) (a : Answer RunAnswer) (exit : List ℕ)
         → Ends (ruleBy (length table) (f .ceiling) (f .columns) (f .diagonals) (f .rights) (f .ups) (f .sources)) table budget p s exit
-        → a ≡ endOf (answerOf s) (countsIn (counterOf s) accepted)
-        → Gives (ended (theory.sweep (rule (bare f)) (ordering f order) budget (theory.begin p)) accepted) a exit
+        → a ≡ answered (endOf (answerOf s) (countsIn (counterOf s) accepted))
+        → Gives (passed (ended (theory.sweep (rule (bare f)) (ordering f order) budget (theory.begin p)) accepted)) a exit
     unfolding neighbours beside across
     run-gives budget accepted s a exit E x =
         let F = film-sweep l order table e budget p some in
         let counts : countsIn (counterOf s) accepted ≡ countsOf (theory.sweep (rule f) (ordering f order) budget (theory.begin p) .last) accepted
         = ap₂ (λ (v r : ℕ). record { visits = v; raises = r; accepted = accepted }) (rw F at (E .visits)) (rw F at (E .raises)) in
         record {
-          answer-is = x ∙ ap₂ (λ (x : theory.Answer) (c : Counts). endOf x c) (rw F at (E .answer)) counts;
+          answer-is = x ∙ ap₂ (λ (x : theory.Ending) (c : Counts). answered (endOf x c)) (rw F at (E .answer)) counts;
           lent-is = rw F at (E .field);
         }
 

@@ -21,12 +21,12 @@ use Rattle.own_proposals.specs.Readies.{from, Readies}
 
 module _ (f : Film) where
   -- one line's proposal, from the estimate that was written and the decision that was made
-  pub own-gives : (p : List ℕ) (line start : ℕ) (offer : List ℕ) (a : ProposalAnswer) (c : ℕ) (exit : List ℕ) → start ≡ lineStart f line
-      → offer ≡ estimate f p start → Gives (propose (bare f) start offer p) a exit → c ≡ cellsOf a → Readies (proposeOwn f line (from p)) c exit
+  pub own-gives : (p : List ℕ) (line start : ℕ) (proposal : List ℕ) (a : ProposalAnswer) (c : ℕ) (exit : List ℕ) → start ≡ lineStart f line
+      → proposal ≡ estimate f p start → Gives (propose (bare f) start proposal p) a exit → c ≡ cellsOf a → Readies (proposeOwn f line (from p)) c exit
   unfolding proposeOwn
-  own-gives p line start offer a c exit s o G e =
-      let k : propose (bare f) start offer p ≡ propose f (lineStart f line) (estimate f p (lineStart f line)) p
-      = propose-bare f start offer p ∙ ap (λ (x : List ℕ). propose f start x p) o ∙ ap (λ (x : ℕ). propose f x (estimate f p x) p) s in
+  own-gives p line start proposal a c exit s o G e =
+      let k : propose (bare f) start proposal p ≡ propose f (lineStart f line) (estimate f p (lineStart f line)) p
+      = propose-bare f start proposal p ∙ ap (λ (x : List ℕ). propose f start x p) o ∙ ap (λ (x : ℕ). propose f x (estimate f p x) p) s in
       let H : Gives (propose f (lineStart f line) (estimate f p (lineStart f line)) p) a exit = rw k at G in
       record { accepted-is = e ∙ ap cellsOf (H .answer-is) ∙ sym (zero-add _); field-is = H .lent-is }
 

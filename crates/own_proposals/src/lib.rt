@@ -36,10 +36,10 @@ fn propose_line(
     field: &mut [u32],
     line: u32,
     margin: u32,
-    offer: &mut [u32],
+    proposal: &mut [u32],
 ) -> u32
     requires { ⌜ Accepted (filmOf head (now weights) (now diagonals) (now rights) (now ups) (now sources)) × Bounded (rule (filmOf head (now weights) (now diagonals) (now rights) (now ups) (now sources))) (now field) ⌝ }
-    requires { ⌜ (margin ≡ marginOf (filmOf head (now weights) (now diagonals) (now rights) (now ups) (now sources))) × ((1 ≤ line) × ((line ≤ head .rows) × (length (now offer) ≡ head .columns))) ⌝ }
+    requires { ⌜ (margin ≡ marginOf (filmOf head (now weights) (now diagonals) (now rights) (now ups) (now sources))) × ((1 ≤ line) × ((line ≤ head .rows) × (length (now proposal) ≡ head .columns))) ⌝ }
     ensures { λ r. ⌜ Readies (proposeOwn (filmOf head (now (weights .entry)) (now (diagonals .entry)) (now (rights .entry)) (now (ups .entry)) (now (sources .entry))) line (from (now (field .entry)))) r (now (field .exit)) ⌝ }
 {
     let start = proposal::line_start(head.columns, line);
@@ -53,7 +53,7 @@ fn propose_line(
         &field[..],
         start,
         margin,
-        offer,
+        proposal,
     );
     cells(proposal::propose(
         head,
@@ -63,7 +63,7 @@ fn propose_line(
         sources,
         field,
         start,
-        &offer[..],
+        &proposal[..],
     ))
 }
 
@@ -76,10 +76,10 @@ fn propose_lines(
     ups: &[u32],
     sources: &[i64],
     field: &mut [u32],
-    offer: &mut [u32],
+    proposal: &mut [u32],
 ) -> u32
     requires { ⌜ Accepted (filmOf head (now weights) (now diagonals) (now rights) (now ups) (now sources)) × Bounded (rule (filmOf head (now weights) (now diagonals) (now rights) (now ups) (now sources))) (now field) ⌝ }
-    requires { ⌜ length (now offer) ≡ head .columns ⌝ }
+    requires { ⌜ length (now proposal) ≡ head .columns ⌝ }
     ensures { λ r. ⌜ Readies (proposeLines (filmOf head (now (weights .entry)) (now (diagonals .entry)) (now (rights .entry)) (now (ups .entry)) (now (sources .entry))) (head .rows) (from (now (field .entry)))) r (now (field .exit)) ⌝ }
 {
     let margin = margin::margin(head, weights, diagonals, rights, ups);
@@ -97,7 +97,7 @@ fn propose_lines(
             field,
             line,
             margin,
-            offer,
+            proposal,
         );
         accepted += more;
     }
@@ -126,7 +126,7 @@ pub fn ready(
         return 0;
     }
     let columns = head.columns as usize;
-    let mut offer = [0u32; 32];
+    let mut proposal = [0u32; 32];
     propose_lines(
         head,
         weights,
@@ -135,6 +135,6 @@ pub fn ready(
         ups,
         sources,
         field,
-        &mut offer[..columns],
+        &mut proposal[..columns],
     )
 }

@@ -14,57 +14,57 @@ use Rattle.model.specs.Film.{Film, sizeOf, beside, across, neighbours, slack}
 use Rattle.model.specs.Checks.{fieldCheck, cellCheck}
 use Rattle.model.specs.Accepted.{Limited}
 use Rattle.model.proofs.Checks.{failIf-pass, field-passes}
-use Rattle.model.specs.Result.{Gives}
-use Rattle.model.specs.Relaxation.{requiredFor, required, RelaxAnswer, quiet, raised, over, relaxedTo, relaxBy, visitCheck, relaxCall, SlackAnswer, slackCall}
+use Rattle.model.specs.Result.{Answer, answered, refused, Result, passed, Gives}
+use Rattle.model.specs.Relaxation.{requiredFor, required, RelaxAnswer, quiet, raised, over, relaxedTo, relax, pointCheck, relaxCall, slackCall}
 use Rattle.model.proofs.Bare.{bare}
 use Rattle.model.specs.declared.Tested.{Tested}
 use Rattle.cell.specs.declared.Cell.{Cell}
 use Rattle.grid.specs.Pull.{cellBy}
 use Rattle.grid.proofs.Limited.{cell-is}
-use Rattle.visit.specs.Relaxation.{kindOf, fieldAfter, Visited}
-use Rattle.visit.specs.declared.Visit.{Visit}
-use Rattle.visit.proofs.Relaxation.{relax-target, raise-above}
+use Rattle.pointwise.specs.Relaxation.{kindOf, fieldAfter, RelaxedAt}
+use Rattle.pointwise.specs.declared.Found.{Found}
+use Rattle.pointwise.proofs.Relaxation.{relax-target, raise-above}
 
 -- what a film, a field and a cell are that have passed their tests
-pub record Ready (f : Film) (p : List ℕ) (i : ℕ) : Type 0 where
+pub record PointPassed (f : Film) (p : List ℕ) (i : ℕ) : Type 0 where
   pub limited : Limited f
   pub len : length p ≡ sizeOf f
   pub inside : i < sizeOf f
 
-pub visit-ready : (f : Film) (p : List ℕ) (i : ℕ) → visitCheck f p i ≡ pass → Ready f p i
-visit-ready f p i e =
+pub point-ready : (f : Film) (p : List ℕ) (i : ℕ) → pointCheck f p i ≡ pass → PointPassed f p i
+point-ready f p i e =
     let P = field-passes f p true pass (cellCheck f i) e in
     record { limited = P .film .limited; len = P .bounded .len; inside = leb-false _ _ (failIf-pass (leb (sizeOf f) i) 13 0 (P .place-is)) }
 
 -- the tests of a call, from what they answered: t of the film and the field, and x of the cell
-pub visit-tested : (f : Film) (p : List ℕ) (i : ℕ) (t x : Tested) → checkOf t ≡ fieldCheck f p true pass (checkOf x) → checkOf x ≡ cellCheck f i
-    → checkOf t ≡ visitCheck f p i
-visit-tested f p i t x e g = rw (← g) e
+pub point-tested : (f : Film) (p : List ℕ) (i : ℕ) (t x : Tested) → checkOf t ≡ fieldCheck f p true pass (checkOf x) → checkOf x ≡ cellCheck f i
+    → checkOf t ≡ pointCheck f p i
+point-tested f p i t x e g = rw (← g) e
 
 -- a raise goes to at most the ceiling
-pub raised-fits : {p exit : List ℕ} {i ceiling target : ℕ} {v : Visit} → Visited p i target ceiling v exit → kindOf v ≡ theory.raise → target ≤ ceiling
+pub raised-fits : {p exit : List ℕ} {i ceiling target : ℕ} {v : Found} → RelaxedAt p i target ceiling v exit → kindOf v ≡ theory.raise → target ≤ ceiling
 raised-fits {p} {exit} {i} {ceiling} {target} S e = (raise-above ceiling target (getD p i 0) (sym (S .kind) ∙ e)) .1
 
--- a visit that goes to the larger of pressure and required pressure, by what it found
-module _ {p exit : List ℕ} {i ceiling target : ℕ} {v : Visit} (required : ℕ) (S : Visited p i target ceiling v exit)
+-- a relaxation that goes to the larger of pressure and required pressure, by what it found
+module _ {p exit : List ℕ} {i ceiling target : ℕ} {v : Found} (required : ℕ) (S : RelaxedAt p i target ceiling v exit)
     (t : target ≡ max (getD p i 0) required) where
   found : kindOf v ≡ theory.relax ceiling required (getD p i 0)
   found = S .kind ∙ ap (λ (r : ℕ). theory.relax ceiling r (getD p i 0)) t ∙ relax-target ceiling required (getD p i 0)
 
   taken : (k : theory.Relaxation) → kindOf v ≡ k → (a : RelaxAnswer) → a ≡ relaxedTo k required p i .answer
-      → fieldAfter k p i target ≡ relaxedTo k required p i .lent → Gives (relaxedTo (theory.relax ceiling required (getD p i 0)) required p i) a exit
+      → fieldAfter k p i target ≡ relaxedTo k required p i .lent → Gives (passed (relaxedTo (theory.relax ceiling required (getD p i 0)) required p i)) (answered a) exit
   taken k e a f g =
       let h : theory.relax ceiling required (getD p i 0) ≡ k = sym found ∙ e in
       let w : theory.relax ceiling target (getD p i 0) ≡ k = sym (S .kind) ∙ e in
-      record { answer-is = rw h f; lent-is = rw h (rw w at (S .field) ∙ g) }
+      record { answer-is = ap answered (rw h f); lent-is = rw h (rw w at (S .field) ∙ g) }
 
-  pub gives-quiet : kindOf v ≡ theory.quiet → Gives (relaxedTo (theory.relax ceiling required (getD p i 0)) required p i) quiet exit
+  pub gives-quiet : kindOf v ≡ theory.quiet → Gives (passed (relaxedTo (theory.relax ceiling required (getD p i 0)) required p i)) (answered quiet) exit
   gives-quiet e = taken theory.quiet e quiet refl refl
 
-  pub gives-over : kindOf v ≡ theory.exceed → Gives (relaxedTo (theory.relax ceiling required (getD p i 0)) required p i) (over i) exit
+  pub gives-over : kindOf v ≡ theory.exceed → Gives (passed (relaxedTo (theory.relax ceiling required (getD p i 0)) required p i)) (answered (over i)) exit
   gives-over e = taken theory.exceed e (over i) refl refl
 
-  pub gives-raised : kindOf v ≡ theory.raise → Gives (relaxedTo (theory.relax ceiling required (getD p i 0)) required p i) (raised target) exit
+  pub gives-raised : kindOf v ≡ theory.raise → Gives (passed (relaxedTo (theory.relax ceiling required (getD p i 0)) required p i)) (answered (raised target)) exit
   gives-raised e =
       let r = raise-above ceiling required (getD p i 0) (sym found ∙ e) in
       let z : target ≡ required = omega (arith, r) in
@@ -77,16 +77,16 @@ module _ (f : Film) (p : List ℕ) (i : ℕ) where
   unfolding neighbours beside across
   cell-required l b c e = ap (λ (x : Cell). requiredFor (x .diagonal) (x .pull) (x .source)) (e ∙ cell-is l p i b)
 
-  pub relax-passed : {a : RelaxAnswer} {exit : List ℕ} → visitCheck f p i ≡ pass → Gives (relaxBy pass (bare f) p i) a exit → Gives (relaxCall f p i) a exit
+  pub relax-passed : {a : Answer RelaxAnswer} {exit : List ℕ} → pointCheck f p i ≡ pass → Gives (passed (relax (bare f) p i)) a exit → Gives (relaxCall f p i) a exit
   unfolding neighbours beside across
   relax-passed e G = rw e G
 
-  pub relax-refused : {number place : ℕ} → visitCheck f p i ≡ fail number place → Gives (relaxCall f p i) (RelaxAnswer.refused number place) p
+  pub relax-refused : {number place : ℕ} → pointCheck f p i ≡ fail number place → Gives (relaxCall f p i) (refused number place) p
   relax-refused e = record { answer-is = rw e; lent-is = rw e }
 
-  pub slack-passed : {z : ℤ} → visitCheck f p i ≡ pass → z ≡ slack (bare f) p i → SlackAnswer.is z ≡ slackCall f p i
+  pub slack-passed : {z : ℤ} → pointCheck f p i ≡ pass → z ≡ slack (bare f) p i → answered z ≡ slackCall f p i
   unfolding neighbours beside across
-  slack-passed e z = rw e (ap SlackAnswer.is z)
+  slack-passed e z = rw e (ap answered z)
 
-  pub slack-refused : {number place : ℕ} → visitCheck f p i ≡ fail number place → SlackAnswer.refused number place ≡ slackCall f p i
+  pub slack-refused : {number place : ℕ} → pointCheck f p i ≡ fail number place → refused number place ≡ slackCall f p i
   slack-refused e = rw e

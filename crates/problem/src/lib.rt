@@ -6,16 +6,15 @@ ghost use mathlib.Core.Path.{_≡_};
 ghost use mathlib.Core.List.{List, []};
 ghost use Prim.Native.Nat.{ℕ, _*_, _<_};
 ghost use lib.ListN.{length};
-ghost use Rattle.model.specs.Refusals.{pass};
 ghost use Rattle.model.specs.Film.{filmOf};
 ghost use Rattle.model.specs.Accepted.{Limited};
-ghost use Rattle.model.specs.Result.{Gives};
-ghost use Rattle.model.specs.Relaxation.{relaxAnswerOf, relaxBy, relaxCall, slackAnswerOf, slackCall};
+ghost use Rattle.model.specs.Result.{passed, Gives};
+ghost use Rattle.model.specs.Relaxation.{relaxAnswerOf, relax as relaxOf, relaxCall, slackAnswerOf, slackCall};
 use model::Head;
 use model::Relaxed;
 use model::Slack;
 use model::Tested;
-use visit::Visit;
+use pointwise::Found;
 
 // The relaxation of a cell of a film that has passed its tests.
 fn relax_cell(
@@ -29,17 +28,17 @@ fn relax_cell(
 ) -> Relaxed
     requires { ⌜ ((w : List ℕ) × Limited (filmOf head w (now diagonals) (now rights) (now ups) (now sources))) ⌝ }
     requires { ⌜ (length (now field) ≡ head .rows * head .columns) × (at < head .rows * head .columns) ⌝ }
-    ensures { λ r. ⌜ Gives (relaxBy pass (filmOf head [] (now (diagonals .entry)) (now (rights .entry)) (now (ups .entry)) (now (sources .entry))) (now (field .entry)) at) (relaxAnswerOf r) (now (field .exit)) ⌝ }
+    ensures { λ r. ⌜ Gives (passed (relaxOf (filmOf head [] (now (diagonals .entry)) (now (rights .entry)) (now (ups .entry)) (now (sources .entry))) (now (field .entry)) at)) (relaxAnswerOf r) (now (field .exit)) ⌝ }
 {
     let pressure = field[at];
     let columns = head.columns as usize;
     let target = grid::cell_at(diagonals, rights, ups, sources, columns, &field[..], at).raise(
         pressure,
     );
-    match visit::visit_at(field, at, target, head.ceiling) {
-        Visit::Quiet => Relaxed::Quiet,
-        Visit::Raised => Relaxed::Raised(target as u32),
-        Visit::Over => Relaxed::Over(at),
+    match pointwise::relax_at(field, at, target, head.ceiling) {
+        Found::Quiet => Relaxed::Quiet,
+        Found::Raised => Relaxed::Raised(target as u32),
+        Found::Over => Relaxed::Over(at),
     }
 }
 

@@ -13,6 +13,7 @@ use Rattle.model.specs.Gauge.{Gauge}
 use Rattle.model.specs.Bytes.{byteAt, wordAt, longAt, signedOf}
 use Rattle.model.specs.Fields.{walk}
 use Rattle.model.specs.File.{gauged, weightsOffset, thicknessesOffset, wedgeOffset, endOffset, cellsIn, ringIn, gaugeIn, gaugeDominance, fieldsCheck}
+use Rattle.model.specs.Result.{Answer, answered, refused}
 use Rattle.model.specs.FileCalls.{gaugeOf, headOf, LoadAnswer, film}
 use Rattle.model.proofs.Checks.{orElse-parts}
 use Rattle.model.proofs.Fields.{walk-passes, passes-end}
@@ -58,13 +59,13 @@ decoded bytes {h} {n} {t} eh en et ew es ez =
 
 -- what the reader gives, from the numbers g that it decoded
 module _ (bytes weights thicknesses : List ℕ) {g : Gauge} (same : g ≡ gaugeIn bytes) where
-  from : {answer : LoadAnswer} {weights′ thicknesses′ : List ℕ} → LoadsBy (gaugeDominance g) g weights thicknesses answer weights′ thicknesses′
+  from : {answer : Answer LoadAnswer} {weights′ thicknesses′ : List ℕ} → LoadsBy (gaugeDominance g) g weights thicknesses answer weights′ thicknesses′
       → LoadsBy (gaugeDominance (gaugeIn bytes)) (gaugeIn bytes) weights thicknesses answer weights′ thicknesses′
   from {answer} {weights′} {thicknesses′} = subst (λ (f : Gauge). LoadsBy (gaugeDominance f) f weights thicknesses answer weights′ thicknesses′) same
 
   pub film-loaded : {weights′ thicknesses′ : List ℕ} → gaugeDominance g ≡ pass → length (g .weights) ≤ length weights
       → length (g .thicknesses) ≤ length thicknesses → weights′ ≡ sets weights 0 (g .weights) → thicknesses′ ≡ sets thicknesses 0 (g .thicknesses)
-      → LoadsBy (gaugeDominance (gaugeIn bytes)) (gaugeIn bytes) weights thicknesses (film (headOf g) (g .wedge)) weights′ thicknesses′
+      → LoadsBy (gaugeDominance (gaugeIn bytes)) (gaugeIn bytes) weights thicknesses (answered (film (headOf g) (g .wedge))) weights′ thicknesses′
   film-loaded e h l p q =
       from (record {
         answer-is = rw e;
@@ -73,5 +74,5 @@ module _ (bytes weights thicknesses : List ℕ) {g : Gauge} (same : g ≡ gaugeI
       })
 
   pub film-refused : {number place : ℕ} → gaugeDominance g ≡ fail number place
-      → LoadsBy (gaugeDominance (gaugeIn bytes)) (gaugeIn bytes) weights thicknesses (LoadAnswer.refused number place) weights thicknesses
+      → LoadsBy (gaugeDominance (gaugeIn bytes)) (gaugeIn bytes) weights thicknesses (refused number place) weights thicknesses
   film-refused e = from (record { answer-is = rw e; weights-are = rw e; thicknesses-are = rw e })

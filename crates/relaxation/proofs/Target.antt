@@ -10,10 +10,10 @@ use Rattle.monotone.specs.Sweep.{quiet, relax}
 use Rattle.model.specs.Relaxation.{requiredFor}
 use Rattle.cell.specs.declared.Cell.{Cell}
 use Rattle.grid.specs.Pull.{cellBy}
-use Rattle.visit.specs.Relaxation.{Stepped}
-use Rattle.visit.specs.declared.Counter.{Counter}
-use Rattle.visit.specs.declared.After.{After}
-use Rattle.visit.proofs.Relaxation.{is-quiet}
+use Rattle.pointwise.specs.Relaxation.{Stepped}
+use Rattle.pointwise.specs.declared.Counter.{Counter}
+use Rattle.pointwise.specs.declared.After.{After}
+use Rattle.pointwise.proofs.Relaxation.{is-quiet}
 use Rattle.relaxation.specs.Rule.{requiredBy}
 
 module _ (entry : List ℕ) (i required ceiling : ℕ) (c : Counter) (r : After) (exit : List ℕ) where
@@ -24,9 +24,9 @@ module _ (entry : List ℕ) (i required ceiling : ℕ) (c : Counter) (r : After)
             let e : max (getD entry i 0) required ≡ getD entry i 0 = omega arith in
             let q : relax ceiling (max (getD entry i 0) required) (getD entry i 0) ≡ quiet = is-quiet _ (max (getD entry i 0) required) (getD entry i 0) (omega arith) in
             record {
-              visited = record {
-                kind = rw (is-quiet ceiling required (getD entry i 0) h) (rw q at (S .visited .kind));
-                field = rw (is-quiet ceiling required (getD entry i 0) h) (rw q at (S .visited .field));
+              relaxed = record {
+                kind = rw (is-quiet ceiling required (getD entry i 0) h) (rw q at (S .relaxed .kind));
+                field = rw (is-quiet ceiling required (getD entry i 0) h) (rw q at (S .relaxed .field));
               };
               counter = rw (is-quiet ceiling required (getD entry i 0) h) (rw q at (S .counter));
             }

@@ -1,34 +1,34 @@
 // The relaxation of one cell from lent slices, counted. Internal: the sweep calls it.
-// The counter is lent to the visit step, which moves it on beside the field; `stepped` lends it from a local, so that callers pass values.
+// The counter is lent to the relaxation step, which moves it on beside the field; `stepped` lends it from a local, so that callers pass values.
 //
 // Proved: the field and the counts are those of a relaxation to what the cell requires under the film's rule, read by index.
 ghost use Prim.Native.Nat.{_<_};
 ghost use lib.ListN.{length};
-ghost use Rattle.visit.specs.Relaxation.{Room, Stepped};
-ghost use Rattle.grid.specs.Pull.{Loaded};
+ghost use Rattle.pointwise.specs.Relaxation.{Room, Stepped};
+ghost use Rattle.grid.specs.Pull.{Aligned};
 ghost use Rattle.relaxation.specs.Rule.{requiredBy};
-use visit::After;
-use visit::Counter;
-use visit::Visit;
+use pointwise::After;
+use pointwise::Counter;
+use pointwise::Found;
 
-// The visit step: the field is written, and the lent counter moves on.
-fn visit_step(field: &mut [u32], at: usize, target: u64, ceiling: u32, c: &mut Counter) -> Visit
+// The relaxation step: the field is written, and the lent counter moves on.
+fn relax_step(field: &mut [u32], at: usize, target: u64, ceiling: u32, c: &mut Counter) -> Found
     requires { ⌜ (at < length (now field)) × Room (now c) ⌝ }
-    ensures { λ r. ⌜ Stepped (now (field .entry)) at target ceiling (now (c .entry)) (record { visit = r; counter = now (c .exit) }) (now (field .exit)) ⌝ }
+    ensures { λ r. ⌜ Stepped (now (field .entry)) at target ceiling (now (c .entry)) (record { found = r; counter = now (c .exit) }) (now (field .exit)) ⌝ }
 {
-    let visit = visit::visit_at(field, at, target, ceiling);
-    *c = visit::counted(*c, visit);
-    visit
+    let found = pointwise::relax_at(field, at, target, ceiling);
+    *c = pointwise::counted(*c, found);
+    found
 }
 
-// The visit step with plain parameters: the counter is lent from a local.
+// The relaxation step with plain parameters: the counter is lent from a local.
 pub fn stepped(field: &mut [u32], at: usize, target: u64, ceiling: u32, c: Counter) -> After
     requires { ⌜ (at < length (now field)) × Room c ⌝ }
     ensures { λ r. ⌜ Stepped (now (field .entry)) at target ceiling c r (now (field .exit)) ⌝ }
 {
     let mut counter = c;
-    let visit = visit_step(field, at, target, ceiling, &mut counter);
-    After { visit, counter }
+    let found = relax_step(field, at, target, ceiling, &mut counter);
+    After { found, counter }
 }
 
 // The relaxation of a cell, counted.
@@ -43,7 +43,7 @@ pub fn relaxed(
     at: usize,
     c: Counter,
 ) -> After
-    requires { ⌜ Loaded columns (now diagonals) (now rights) (now ups) (now sources) (now field) ⌝ }
+    requires { ⌜ Aligned columns (now diagonals) (now rights) (now ups) (now sources) (now field) ⌝ }
     requires { ⌜ (at < length (now field)) × Room c ⌝ }
     ensures { λ r. ⌜ Stepped (now (field .entry)) at (requiredBy columns (now (diagonals .entry)) (now (rights .entry)) (now (ups .entry)) (now (sources .entry)) (now (field .entry)) at) ceiling c r (now (field .exit)) ⌝ }
 {

@@ -10,10 +10,10 @@ ghost use Rattle.fault.specs.Numbers.{numberOf};
 ghost use Rattle.model.specs.Film.{filmOf};
 ghost use Rattle.model.specs.Accepted.{Limited};
 ghost use Rattle.model.specs.Run.{runAnswerOf};
-ghost use Rattle.model.specs.Report.{line, overWord, cellLine, cellLines, peakOf, fieldText, answerLine, refusedLine, answerText};
+ghost use Rattle.model.specs.Report.{line, overWord, cellLine, cellLines, peakOf, fieldText, answerLine, refusedLine};
 ghost use Rattle.text.specs.Writes.{Fits, Writes};
 ghost use Rattle.report_lines.specs.Lines.{pair};
-ghost use Rattle.render.specs.Answer.{Inside};
+ghost use Rattle.render.specs.Answer.{Inside, textOf};
 use model::Counts;
 use model::Head;
 use model::Ran;
@@ -205,8 +205,8 @@ pub fn put_answer(
 ) -> usize
     requires { ⌜ ((w : List ℕ) × Limited (filmOf head w (now diagonals) (now rights) (now ups) (now sources))) ⌝ }
     requires { ⌜ (length (now field) ≡ head .rows * head .columns) × Inside (head .rows * head .columns) (runAnswerOf answer) ⌝ }
-    requires { ⌜ Fits (answerText (filmOf head [] (now diagonals) (now rights) (now ups) (now sources)) (runAnswerOf answer) (now field)) (now out) at ⌝ }
-    ensures { λ r. ⌜ Writes (answerText (filmOf head [] (now (diagonals .entry)) (now (rights .entry)) (now (ups .entry)) (now (sources .entry))) (runAnswerOf answer) (now (field .entry))) (now (out .entry)) at (now (out .exit)) r ⌝ }
+    requires { ⌜ Fits (textOf (filmOf head [] (now diagonals) (now rights) (now ups) (now sources)) (runAnswerOf answer) (now field)) (now out) at ⌝ }
+    ensures { λ r. ⌜ Writes (textOf (filmOf head [] (now (diagonals .entry)) (now (rights .entry)) (now (ups .entry)) (now (sources .entry))) (runAnswerOf answer) (now (field .entry))) (now (out .entry)) at (now (out .exit)) r ⌝ }
 {
     match answer {
         Ran::Done(c) => put_ended(

@@ -11,16 +11,16 @@ use lib.ListN.{length, take, replicate}
 use Rattle.model.specs.Refusals.{pass}
 use Rattle.model.specs.Film.{filmOf}
 use Rattle.model.specs.Coefficients.{formed}
-use Rattle.model.specs.Result.{Gives}
+use Rattle.model.specs.Result.{answered, refused, Gives}
 use Rattle.model.specs.Gauge.{Gauge}
 use Rattle.model.specs.File.{gaugeCheck, Bytes, Values}
-use Rattle.model.specs.FileCalls.{gaugeOf, LoadAnswer, film, Loads}
+use Rattle.model.specs.FileCalls.{gaugeOf, film, Loads, used}
 use Rattle.model.specs.Report.{refusedLine, filmReport, reportBy, reportOf}
-use Rattle.model.specs.ReportCall.{longestReport, ReportAnswer, reportCall}
+use Rattle.model.specs.ReportCall.{longestReport, reportCall}
 use Rattle.model.specs.declared.Head.{Head}
 use Rattle.model.proofs.File.{read-values}
 use Rattle.model.proofs.Report.{report-fits}
-use Rattle.file.proofs.Inverse.{used, read-film, read-refusal}
+use Rattle.model.proofs.Inverse.{read-film, read-refusal}
 use Rattle.forming.specs.Cell.{Forming}
 use Rattle.text.specs.Writes.{Fits, Writes}
 use Rattle.text.proofs.Writes.{sets-front}
@@ -46,7 +46,7 @@ pub record Read (bytes : List ℕ) (g : Gauge) : Type 0 where
   pub passes : gaugeCheck g true ≡ pass
   pub text : reportOf bytes ≡ filmReport (formed g)
 
-pub read-report : {bytes w t w′ t′ : List ℕ} {h : Head} {wedge : ℤ} → Bytes bytes → Loads bytes w t (film h wedge) w′ t′ → Read bytes (used h wedge w′ t′)
+pub read-report : {bytes w t w′ t′ : List ℕ} {h : Head} {wedge : ℤ} → Bytes bytes → Loads bytes w t (answered (film h wedge)) w′ t′ → Read bytes (used h wedge w′ t′)
 read-report {bytes} {w} {t} {w′} {t′} {h} {wedge} B L =
     let reads = read-film bytes w t w′ t′ h wedge B L in
     let v = read-values bytes (used h wedge w′ t′) B reads in
@@ -54,30 +54,30 @@ read-report {bytes} {w} {t} {w′} {t′} {h} {wedge} B L =
 
 -- .. or of its refusal
 pub refusal-report : {bytes w t w′ t′ : List ℕ} {number place : ℕ} → length w ≡ 1024 → length t ≡ 1156
-    → Loads bytes w t (LoadAnswer.refused number place) w′ t′ → reportOf bytes ≡ refusedLine number place
+    → Loads bytes w t (refused number place) w′ t′ → reportOf bytes ≡ refusedLine number place
 refusal-report {bytes} {w} {t} {w′} {t′} {number} {place} n m L = ap reportBy (read-refusal bytes w t w′ t′ number place n m L)
 
 -- the call, by what its test of the buffer finds
 module _ (bytes out : List ℕ) where
-  pub short-refused : length out < longestReport → Gives (reportCall bytes out) (ReportAnswer.refused 10 0) out
+  pub short-refused : length out < longestReport → Gives (reportCall bytes out) (refused 10 0) out
   short-refused h = record { answer-is = rw (lt-ltb _ _ h); lent-is = rw (lt-ltb _ _ h) }
 
   pub long-fits : Bytes bytes → longestReport ≤ length out → Fits (reportOf bytes) out 0
   long-fits B h = record { room = omega (arith, report-fits bytes B) }
 
   pub long-written : {after : List ℕ} {n : ℕ} → Bytes bytes → longestReport ≤ length out → Writes (reportOf bytes) out 0 after n
-      → Gives (reportCall bytes out) (ReportAnswer.written n) after
+      → Gives (reportCall bytes out) (answered n) after
   long-written {after} {n} B h w =
       let size : n ≡ length (reportOf bytes) = omega (arith, w .next-is) in
       record {
-        answer-is = rw (le-ltb _ _ h) (ap ReportAnswer.written size);
+        answer-is = rw (le-ltb _ _ h) (ap answered size);
         lent-is = rw (le-ltb _ _ h) (w .bytes-are ∙ sets-front out (reportOf bytes) (omega (arith, report-fits bytes B)));
       }
 
   -- what was written is within the buffer
-  pub written-fits : {after : List ℕ} {n : ℕ} → Bytes bytes → longestReport ≤ length out → Gives (reportCall bytes out) (ReportAnswer.written n) after
+  pub written-fits : {after : List ℕ} {n : ℕ} → Bytes bytes → longestReport ≤ length out → Gives (reportCall bytes out) (answered n) after
       → n ≤ length out
   written-fits {after} {n} B h G =
-      let told : ReportAnswer.written n ≡ ReportAnswer.written (length (reportOf bytes)) = rw (le-ltb _ _ h) at (G .answer-is) in
+      let told : answered n ≡ answered (length (reportOf bytes)) = rw (le-ltb _ _ h) at (G .answer-is) in
       let size : n ≡ length (reportOf bytes) = cc in
       omega (arith, report-fits bytes B)

@@ -7,7 +7,7 @@ use Rattle.monotone.specs.Sweep as theory
 use Rattle.model.specs.Refusals.{Check, pass, fail, checkOf}
 use Rattle.model.specs.Film.{Film, rule, beside, across, neighbours}
 use Rattle.model.specs.Checks.{fieldCheck, orderCheck}
-use Rattle.model.specs.Result.{Gives}
+use Rattle.model.specs.Result.{Answer, refused, passed, Gives}
 use Rattle.model.specs.Run.{readied, RunAnswer, ended, ordering, run, runCall}
 use Rattle.model.proofs.Checks.{FieldPassed, field-passes}
 use Rattle.model.proofs.Bare.{bare}
@@ -28,11 +28,11 @@ module _ (f : Film) where
 
   -- the run whole: its tests, the proposals and the relaxations
   module _ (p : List ℕ) (budget order : ℕ) (on : Bool) where
-    pub run-passed : (accepted : ℕ) (q : List ℕ) {a : RunAnswer} {exit : List ℕ} → runTests p order ≡ pass → Readies (readied f budget on p) accepted q
-        → Gives (ended (theory.sweep (rule (bare f)) (ordering f order) budget (theory.begin q)) accepted) a exit
+    pub run-passed : (accepted : ℕ) (q : List ℕ) {a : Answer RunAnswer} {exit : List ℕ} → runTests p order ≡ pass → Readies (readied f budget on p) accepted q
+        → Gives (passed (ended (theory.sweep (rule (bare f)) (ordering f order) budget (theory.begin q)) accepted)) a exit
         → Gives (runCall f budget order on p) a exit
     unfolding run neighbours beside across
     run-passed accepted q e R G = rw e (rw (R .accepted-is, R .field-is) at G)
 
-    pub run-refused : {number place : ℕ} → runTests p order ≡ fail number place → Gives (runCall f budget order on p) (RunAnswer.refused number place) p
+    pub run-refused : {number place : ℕ} → runTests p order ≡ fail number place → Gives (runCall f budget order on p) (refused number place) p
     run-refused e = record { answer-is = rw e; lent-is = rw e }

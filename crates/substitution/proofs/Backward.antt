@@ -1,4 +1,4 @@
--- Backwards along a line: the solution in each cell from the end of the row on, and what is offered there.
+-- Backwards along a line: the solution in each cell from the end of the row on, and what is proposed there.
 use mathlib.Core.Path.{_≡_, refl, sym, ap, _∙_}
 use mathlib.Core.Bool.{true, false}
 use mathlib.Core.List.{List}
@@ -12,7 +12,7 @@ use lib.Seq.{getD-set-same, getD-set-other}
 use Rattle.model.specs.Lists.{tabulate}
 use Rattle.model.specs.Film.{Film, rightAt, weightAt}
 use Rattle.model.specs.Margin.{margin}
-use Rattle.model.specs.Estimate.{whole, isBroken, substitute, wholePart, eliminated, solved, estimateAt, estimate}
+use Rattle.model.specs.Estimate.{floatOf, isBroken, substitute, wholePart, eliminated, solved, estimateAt, estimate}
 use Rattle.model.specs.Estimate as paper
 use Rattle.model.proofs.Lists.{tabulate-is, tabulate-at, tabulate-length}
 use Rattle.substitution.specs.Line.{solutionOf, OfLine, Substituted}
@@ -24,22 +24,22 @@ use Rattle.elimination.proofs.Forward.{recalled-is}
 module _ (f : Film) (p : List ℕ) (start : ℕ) where
   -- the solution in column j, from that in the column after it
   solved-at : (j n : ℕ) → n + suc j ≡ f .columns
-      → solved f p start (suc n) ≡ substitute (eliminated f p start (suc j)) (whole (rightAt f (start + j))) (solved f p start n)
+      → solved f p start (suc n) ≡ substitute (eliminated f p start (suc j)) (floatOf (rightAt f (start + j))) (solved f p start n)
   unfolding solved
   solved-at j n e =
       let a : f .columns - n ≡ suc j = omega arith in
       let b : f .columns - suc n ≡ j = omega arith in
       rw (a, b)
 
-  -- what is offered in column k of a line that did not break
-  abbrev offered : ℕ → ℕ
-  offered k = wholePart (solved f p start (f .columns - k)) - margin f * weightAt f (start + k)
+  -- what is proposedAt in column k of a line that did not break
+  abbrev proposedAt : ℕ → ℕ
+  proposedAt k = wholePart (solved f p start (f .columns - k)) - margin f * weightAt f (start + k)
 
   -- The columns from j on are written, for a given film and field.
   pub record Returning (j : ℕ) (proposal : List ℕ) (next : Solution) : Type 0 where
     pub low : j ≤ f .columns
     pub next-is : solutionOf next ≡ solved f p start (f .columns - j)
-    pub written : (k : ℕ) → j ≤ k → k < f .columns → getD proposal k 0 ≡ offered k
+    pub written : (k : ℕ) → j ≤ k → k < f .columns → getD proposal k 0 ≡ proposedAt k
 
   return-begin : (proposal : List ℕ) → Returning (f .columns) proposal solutions.Inactive
   unfolding solved
@@ -51,7 +51,7 @@ module _ (f : Film) (p : List ℕ) (start : ℕ) where
   return-next : {j : ℕ} {proposal : List ℕ} {next here : Solution} {v : ℕ} {pivots sides : List Float}
       → Returning j proposal next → 0 < j → f .columns ≡ length proposal → Eliminated f p start false pivots sides
       → solutionOf here
-      ≡ substitute (recall (getD pivots (j - 1) nan) (getD sides (j - 1) nan)) (whole (rightAt f (start + (j - 1)))) (solutionOf next)
+      ≡ substitute (recall (getD pivots (j - 1) nan) (getD sides (j - 1) nan)) (floatOf (rightAt f (start + (j - 1)))) (solutionOf next)
       → v ≡ wholePart (solutionOf here) - margin f * weightAt f (start + (j - 1))
       → Returning (j - 1) (set proposal (j - 1) v) here
   return-next {j} {proposal} {next} {here} {v} R b l E s w =
@@ -81,7 +81,7 @@ module _ (f : Film) (p : List ℕ) (start : ℕ) where
   return-done {proposal} R l u =
       tabulate-is (f .columns) (estimateAt f p start) 0 proposal (sym l) (λ i h. R .written i (omega arith) h ∙ sym (shown i))
     where
-      shown : (i : ℕ) → estimateAt f p start i ≡ offered i
+      shown : (i : ℕ) → estimateAt f p start i ≡ proposedAt i
       shown i = rw u
 
   -- a broken line offers zeros
@@ -106,7 +106,7 @@ module _ (weights rights : List ℕ) (pivots sides : List Float) (start k : ℕ)
       record { low = omega arith; len = refl; goes = λ f p O e. rw (← e) (return-begin f p start proposal) }
 
   pub substituting-next : {n j : ℕ} {proposal : List ℕ} {next here : Solution} {step : paper.Elimination} {link : Float} {number v : ℕ}
-      → Substituting n j proposal next → 0 < j → link ≡ whole (getD rights (start + (j - 1)) 0)
+      → Substituting n j proposal next → 0 < j → link ≡ floatOf (getD rights (start + (j - 1)) 0)
       → step ≡ recall (getD pivots (j - 1) nan) (getD sides (j - 1) nan)
       → solutionOf here ≡ substitute step link (solutionOf next)
       → number ≡ wholePart (solutionOf here) → v ≡ number - k * getD weights (start + (j - 1)) 0

@@ -1,4 +1,4 @@
--- The way back along a line: a solution as the code answers it, and what is offered.
+-- The way back along a line: a solution as the code answers it, and what is proposed.
 use mathlib.Core.Path.{_≡_}
 use mathlib.Core.Bool.{false}
 use mathlib.Core.List.{List}

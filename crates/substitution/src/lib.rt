@@ -62,7 +62,7 @@ fn shaved(number: u32, margin: u32, weight: u16) -> u32
     number - (shave as u32)
 }
 
-// Backwards along the row that begins at `start`, from its kept steps: writes what is offered in each cell.
+// Backwards along the row that begins at `start`, from its kept steps: writes what is proposed in each cell.
 pub fn substitute_line(
     weights: &[u16],
     rights: &[u32],

@@ -12,27 +12,27 @@ use Rattle.monotone.specs.Rule.{Rule}
 use Rattle.monotone.specs.Sweep as theory
 use Rattle.monotone.proofs.Sweep.{Seen, was-quiet, was-raise, was-exceed, see}
 use Rattle.monotone.proofs.Steps.{Going, going-begin, going-stopped, going-quiet, going-done, going-raise, going-over}
-use Rattle.grid.specs.Pull.{Loaded}
-use Rattle.visit.specs.Relaxation.{Room, kindOf, fieldAfter, countAfter, Stepped}
+use Rattle.grid.specs.Pull.{Aligned}
+use Rattle.pointwise.specs.Relaxation.{Room, kindOf, fieldAfter, countAfter, Stepped}
 use Rattle.sweep.specs.Sweep.{Listed, orderIn, stateOf, foundAt, Advanced, answerOf, counterOf, Ends}
-use Rattle.visit.specs.Relaxation.{judgeBy}
-use Rattle.visit.specs.declared.Counter.{Counter}
-use Rattle.visit.specs.declared.After.{After}
-use Rattle.visit.specs.declared.Step.{Step}
-use Rattle.visit.specs.declared.Step.the-variants as steps
+use Rattle.pointwise.specs.Relaxation.{judgeBy}
+use Rattle.pointwise.specs.declared.Counter.{Counter}
+use Rattle.pointwise.specs.declared.After.{After}
+use Rattle.pointwise.specs.declared.Step.{Step}
+use Rattle.pointwise.specs.declared.Step.the-variants as steps
 use Rattle.sweep.specs.declared.Swept.{Swept}
 use Rattle.sweep.specs.declared.Swept.the-variants as ends
 
 -- the relaxation of the cell at a place, judged
 pub advanced-by : (table p : List ℕ) (ceiling : ℕ) (required : List ℕ → ℕ → ℕ) (place : ℕ) (c : Counter) (at : ℕ) (a : After) (r : Step) (exit : List ℕ)
-    → at ≡ orderIn table place → Stepped p at (required p at) ceiling c a exit → r ≡ judgeBy (kindOf (a .visit)) (length table) at (a .counter)
+    → at ≡ orderIn table place → Stepped p at (required p at) ceiling c a exit → r ≡ judgeBy (kindOf (a .found)) (length table) at (a .counter)
     → Advanced (record { size = length table; ceiling = ceiling; required = required }) table p place c r exit
 advanced-by table p ceiling required place c at a r exit e S j =
-    record { answer = rw (← e) (rw (S .visited .kind, S .counter) at j); field = rw (← e) (S .visited .field) }
+    record { answer = rw (← e) (rw (S .relaxed .kind, S .counter) at j); field = rw (← e) (S .relaxed .field) }
 
 -- coefficients serve every field of that length
 pub loaded-long : {columns : ℕ} {diagonals rights ups : List ℕ} {sources : List ℤ} {p : List ℕ} (q : List ℕ)
-    → length q ≡ length p → Loaded columns diagonals rights ups sources p → Loaded columns diagonals rights ups sources q
+    → length q ≡ length p → Aligned columns diagonals rights ups sources p → Aligned columns diagonals rights ups sources q
 loaded-long q e L =
     record {
       right = record { len = L .right .len ∙ sym e; small = L .right .small };

@@ -5,9 +5,9 @@ use Prim.Native.Nat.{ℕ, _<_}
 use lib.ListN.{length, getD}
 use Rattle.monotone.specs.Rule.{Rule}
 use Rattle.monotone.specs.Sweep as theory
-use Rattle.visit.specs.Relaxation.{countAfter, fieldAfter, judgeBy}
-use Rattle.visit.specs.declared.Counter.{Counter}
-use Rattle.visit.specs.declared.Step.{Step}
+use Rattle.pointwise.specs.Relaxation.{countAfter, fieldAfter, judgeBy}
+use Rattle.pointwise.specs.declared.Counter.{Counter}
+use Rattle.pointwise.specs.declared.Step.{Step}
 use Rattle.sweep.specs.declared.Swept.{Swept}
 use Rattle.sweep.specs.declared.Swept.the-variants as ends
 
@@ -32,7 +32,7 @@ pub record Advanced (F : Rule) (table entry : List ℕ) (place : ℕ) (c : Count
   pub answer : r ≡ judgeBy (foundAt F table entry place c) (length table) (orderIn table place) (countAfter (foundAt F table entry place c) c)
   pub field : exit ≡ fieldAfter (foundAt F table entry place c) entry (orderIn table place) (F .required entry (orderIn table place))
 
-abbrev pub answerOf : Swept → theory.Answer
+abbrev pub answerOf : Swept → theory.Ending
 answerOf (ends.Done c) = theory.done
 answerOf (ends.Stopped c) = theory.stopped
 answerOf (ends.Over i c) = theory.over i

@@ -5,12 +5,12 @@
 ghost use mathlib.Core.Path.{_≡_};
 ghost use Prim.Native.Nat.{_<_};
 ghost use lib.ListN.{length};
-ghost use Rattle.grid.specs.Pull.{Loaded};
-ghost use Rattle.visit.specs.Relaxation.{Room};
+ghost use Rattle.grid.specs.Pull.{Aligned};
+ghost use Rattle.pointwise.specs.Relaxation.{Room};
 ghost use Rattle.relaxation.specs.Rule.{ruleBy};
 ghost use Rattle.sweep.specs.Sweep.{Listed, Advanced, Ends};
-use visit::Counter;
-use visit::Step;
+use pointwise::Counter;
+use pointwise::Step;
 
 // How a sweep ends.
 pub enum Swept {
@@ -38,7 +38,7 @@ fn advance(
     place: usize,
     c: Counter,
 ) -> Step
-    requires { ⌜ Loaded columns (now diagonals) (now rights) (now ups) (now sources) (now field) ⌝ }
+    requires { ⌜ Aligned columns (now diagonals) (now rights) (now ups) (now sources) (now field) ⌝ }
     requires { ⌜ Listed (now table) (length (now field)) × ((place < length (now table)) × Room c) ⌝ }
     ensures { λ r. ⌜ Advanced (ruleBy (length (now (table .entry))) ceiling columns (now (diagonals .entry)) (now (rights .entry)) (now (ups .entry)) (now (sources .entry))) (now (table .entry)) (now (field .entry)) place c r (now (field .exit)) ⌝ }
 {
@@ -54,7 +54,7 @@ fn advance(
         at,
         c,
     );
-    visit::judged(table.len(), at, after)
+    pointwise::judged(table.len(), at, after)
 }
 
 // At most as many relaxations as the budget allows, from the start of the table.
@@ -69,7 +69,7 @@ pub fn sweep(
     field: &mut [u32],
     budget: u64,
 ) -> Swept
-    requires { ⌜ Loaded columns (now diagonals) (now rights) (now ups) (now sources) (now field) ⌝ }
+    requires { ⌜ Aligned columns (now diagonals) (now rights) (now ups) (now sources) (now field) ⌝ }
     requires { ⌜ Listed (now table) (length (now field)) × (0 < length (now field)) ⌝ }
     ensures { λ r. ⌜ Ends (ruleBy (length (now (table .entry))) ceiling columns (now (diagonals .entry)) (now (rights .entry)) (now (ups .entry)) (now (sources .entry))) (now (table .entry)) budget (now (field .entry)) r (now (field .exit)) ⌝ }
 {
@@ -92,7 +92,7 @@ pub fn sweep(
             place,
             counter,
         );
-        place = visit::next_place(table.len(), place);
+        place = pointwise::next_place(table.len(), place);
         match step {
             Step::On(c) => {
                 counter = c;

@@ -11,7 +11,7 @@ use lib.Signed.{ltZ}
 use borrow.Author.Tests.{ltb-true}
 use lib.ListN.{length, length-append, getD, set, take, drop}
 use lib.Seq.{sets, sets-eq, length-sets, take-suc, take-length, drop-length}
-use Rattle.model.specs.Integers.{lift as liftOf, drop as dropOf}
+use Rattle.model.specs.Integers.{positivePart, negativePart}
 use Rattle.model.specs.Report.{decimal, signed}
 use Rattle.text.specs.Writes.{Fits, Writes}
 
@@ -83,10 +83,10 @@ module _ {bytes : List ℕ → List ℕ} {source : List ℕ} {at : ℕ} {before 
       p .done ∙ ap (λ l. sets before at (bytes l)) (ap (λ k. take k source) e ∙ take-length source)
 
 -- a signed number's text, below 0 and not
-pub signed-below : (z : ℤ) → ltZ z (pos 0) ≡ true → signed z ≡ (45 ∷ []) ++ decimal (dropOf z)
+pub signed-below : (z : ℤ) → ltZ z (pos 0) ≡ true → signed z ≡ (45 ∷ []) ++ decimal (negativePart z)
 signed-below (pos n) t = let h : n < 0 = ltb-true n 0 t in absurd (omega arith)
 signed-below (negsuc n) t = refl
 
-pub signed-above : (z : ℤ) → ltZ z (pos 0) ≡ false → signed z ≡ decimal (liftOf z)
+pub signed-above : (z : ℤ) → ltZ z (pos 0) ≡ false → signed z ≡ decimal (positivePart z)
 signed-above (pos n) t = refl
 signed-above (negsuc n) t = absurd (true≢false t)

@@ -50,7 +50,7 @@ pub fn put_signed(out: &mut [u8], at: usize, n: i64) -> usize
 {
     if n < 0 {
         let next = put_byte(out, at, MINUS);
-        return put_decimal(out, next, cell::drop(n));
+        return put_decimal(out, next, cell::negative_part(n));
     }
-    put_decimal(out, at, cell::lift(n))
+    put_decimal(out, at, cell::positive_part(n))
 }

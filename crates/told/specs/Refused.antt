@@ -2,6 +2,7 @@
 use mathlib.Core.Path.{_≡_}
 use Prim.Native.Nat.{ℕ}
 use Rattle.model.specs.Refusals.{Check, pass, fail}
+use Rattle.model.specs.Result.{Answer, answered, refused}
 
 -- 0 if the call answered
 abbrev pub numberIn : Check → ℕ
@@ -17,3 +18,8 @@ placeIn (fail number place) old = place
 pub record Told (test : Check) (place number place′ : ℕ) : Type 0 where
   pub number-is : number ≡ numberIn test
   pub place-is : place′ ≡ placeIn test place
+
+-- a number that the call answers and is lent to write: at exit, from that at entry
+abbrev pub valueIn : {A : Type 0} → Answer A → A → A
+valueIn (answered a) old = a
+valueIn (refused number place) old = old

@@ -13,7 +13,7 @@ use Rattle.model.specs.Fields.{field, bytesOf}
 use Rattle.model.specs.File.{cells, ringed, endOffset, weightBytes, gauged, bodies, fileOf}
 use Rattle.text.proofs.Writes.{sets-next, sets-whole}
 use Rattle.model.proofs.File.{weights-length}
-use Rattle.writing.specs.Ready.{fileLength, Ready}
+use Rattle.writing.specs.Writable.{fileLength, Writable}
 
 pub length-known : (rows columns : ℕ) → rows ≤ sideLimit → columns ≤ sideLimit
     → fileLength rows columns ≡ endOffset (cells rows columns) (ringed rows columns)
@@ -24,7 +24,7 @@ length-known rows columns h l = rw (le-ltb sideLimit rows h, le-ltb sideLimit co
 pub length-sum : (rows columns : ℕ) → rows ≤ sideLimit → columns ≤ sideLimit → fileLength rows columns ≡ 25 + 2 * cells rows columns + ringed rows columns
 length-sum rows columns h l = length-known rows columns h l ∙ omega arith
 
-module _ (g : Gauge) (out : List ℕ) (R : Ready g out) where
+module _ (g : Gauge) (out : List ℕ) (R : Writable g out) where
   pub film-put : {l1 l2 l3 l4 l5 : List ℕ}
       → l1 ≡ sets out 0 (field 1 2 (g .rows ∷ g .columns ∷ []))
       → l2 ≡ sets l1 5 (field 2 4 (long (g .ceiling)))

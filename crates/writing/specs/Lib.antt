@@ -1,2 +1,2 @@
 -- What the contracts cite beside the model.
-pub mod Ready
+pub mod Writable

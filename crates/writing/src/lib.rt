@@ -12,7 +12,7 @@ ghost use Rattle.model.specs.Bytes.{long};
 ghost use Rattle.model.specs.Fields.{field};
 ghost use Rattle.model.specs.File.{weightBytes, fileOf};
 ghost use Rattle.model.specs.FileCalls.{gaugeOf};
-ghost use Rattle.writing.specs.Ready.{fileLength, Ready};
+ghost use Rattle.writing.specs.Writable.{fileLength, Writable};
 use model::Head;
 
 // The field of the shape, at the start of a file.
@@ -64,7 +64,7 @@ pub fn file_length(rows: u32, columns: u32) -> usize
 
 // Writes a film's file, field by field.
 pub fn put_film(head: Head, weights: &[u16], thicknesses: &[u8], wedge: i32, out: &mut [u8])
-    requires { ⌜ Ready (gaugeOf head (now weights) (now thicknesses) wedge) (now out) ⌝ }
+    requires { ⌜ Writable (gaugeOf head (now weights) (now thicknesses) wedge) (now out) ⌝ }
     ensures { λ r. ⌜ now (out .exit) ≡ fileOf (gaugeOf head (now (weights .entry)) (now (thicknesses .entry)) wedge) ⌝ }
 {
     let end = 15 + 2 * weights.len(); // behind the weights

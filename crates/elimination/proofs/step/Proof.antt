@@ -9,7 +9,7 @@ use lib.ListN.{getD}
 use mir.Syntax.{w64}
 use mir.Val.{toZ, ofZ}
 use mir.Facts.{toZ-ofZ}
-use Rattle.model.specs.Estimate.{whole}
+use Rattle.model.specs.Estimate.{floatOf}
 use Rattle.cell.proofs.Limits.{source-kept}
 use Rattle.elimination.proofs.RightSide.{side-fits}
 use Rattle.elimination.proofs.Chain.{held-loaded, across-found, across-fits, source-fits, step-is}
@@ -113,7 +113,7 @@ returns c =
     (c .before .active .ensures)
     (t .before .from-u32 .ensures)
     (i .from-i64 .ensures ∙ ap (ofInt binary64) (side (i .before)))
-    (k .from-u322 .ensures ∙ ap (λ (n : ℕ). whole (getD (now (s .args .rights)) n 0)) (k .before .before .previous .ensures))
+    (k .from-u322 .ensures ∙ ap (λ (n : ℕ). floatOf (getD (now (s .args .rights)) n 0)) (k .before .before .previous .ensures))
     (c .eliminate .ensures)
 
 pub step-spec : {M : Type 1} → statement M

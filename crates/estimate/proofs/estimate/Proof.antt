@@ -1,4 +1,4 @@
--- `estimate::estimate` meets its contract: a broken line is offered zeros (`broken-zeros`), any other what the way back makes of the steps that were kept.
+-- `estimate::estimate` meets its contract: a broken line proposes zeros (`broken-zeros`), any other what the way back makes of the steps that were kept.
 use mathlib.Core.Path.{refl, sym, ap, _∙_}
 use Prim.Native.Nat.{ℕ}
 use native.Mathlib.Omega.{arith}

@@ -64,15 +64,15 @@ returns-2 : tie.Need-returns-2
 unfolding fieldAt
 returns-2 c =
     let body = c .before .before in
-    let misfit = body .before in
-    let stray = misfit .before in
-    let word = stray .before .before in
+    let wrong = body .before in
+    let unexpected = wrong .before in
+    let word = unexpected .before .before in
     let long = word .before .before in
     let a = long .before .before .args in
     let length = word .first-word .ensures ∙ word-from (now (a .file)) (a .at + 1) in
     rw (le-ltb _ _ (long .if1 .left))
-    (joined (c .or-else2 .ensures) (stray .fail-if .ensures)
-    (joined (c .before .or-else .ensures) (rw length at (misfit .fail-if2 .ensures)) (body .fail-if3 .ensures)))
+    (joined (c .or-else2 .ensures) (unexpected .fail-if .ensures)
+    (joined (c .before .or-else .ensures) (rw length at (wrong .fail-if2 .ensures)) (body .fail-if3 .ensures)))
 
 pub header-test-spec : {M : Type 1} → statement M
 header-test-spec =

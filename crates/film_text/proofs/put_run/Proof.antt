@@ -7,6 +7,7 @@ use Rattle.model.specs.Film.{Film, filmOf}
 use Rattle.model.specs.Run.{runAnswerOf}
 use Rattle.model.specs.Report.{headLine, reportRun, answerText}
 use Rattle.model.proofs.Bare.{bare}
+use Rattle.render.specs.Answer.{textOf}
 use Rattle.text.specs.Writes.{Fits, Writes}
 use Rattle.text.proofs.Writes.{fits-first, fits-rest, writes-then}
 use Rattle.film_text.proofs.Answer.{answer-bare, Reports, run-reports}
@@ -39,7 +40,7 @@ reported : (c : tie.After-run) → Reports (film (start c)) (runAnswerOf (c .run
 reported c = run-reports (film (start c)) (start c .pre .0 .0) (start c .pre .0 .1) (c .run .ensures)
 
 -- the text that is left is its answer's
-rest-is : (c : tie.After-run) → rest c ≡ answerText (bare (film (start c))) (runAnswerOf (c .run .result)) (field c)
+rest-is : (c : tie.After-run) → rest c ≡ textOf (bare (film (start c))) (runAnswerOf (c .run .result)) (field c)
 rest-is c = reported c .text ∙ sym (answer-bare (film (start c)) (field c) (runAnswerOf (c .run .result)))
 
 cast-put-head : tie.Need-cast-put-head

@@ -8,7 +8,7 @@ use lib.Dec.{T, leb, lit≤}
 use lib.Ieee.{le}
 use lib.Ieee.Scale.{finite}
 use Rattle.model.specs.Limits.{estimateLimit}
-use Rattle.model.specs.Estimate.{whole, floorOf}
+use Rattle.model.specs.Estimate.{floatOf, floorOf}
 use Rattle.model.proofs.Estimate.{floor-test, floor-below}
 use Rattle.float.proofs.floor.Statement.{statement}
 use Rattle.float.proofs.floor.Tie as tie
@@ -27,7 +27,7 @@ abbrev middle : tie.In-loop Inv-loop μ-loop → ℕ
 middle c = (c .before .loop .low + c .before .loop .high) / 2
 
 -- the middle is at most x where it is at most the floor of x
-tested : (c : tie.In-loop Inv-loop μ-loop) → le (whole (middle c)) (c .before .before .args .x) ≡ leb (middle c) (floorOf (c .before .before .args .x))
+tested : (c : tie.In-loop Inv-loop μ-loop) → le (floatOf (middle c)) (c .before .before .args .x) ≡ leb (middle c) (floorOf (c .before .before .args .x))
 tested c = let start = c .before .before in floor-test (middle c) (start .args .x) (omega arith) (in-range start .0) (start .pre .0)
 
 loop-holds : tie.Need-loop-holds Inv-loop μ-loop

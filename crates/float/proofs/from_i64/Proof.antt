@@ -8,11 +8,11 @@ use lib.IntN.{ℤ, pos, negsuc}
 use lib.Ieee.{binary64, inFloat}
 use mir.Syntax.{w64}
 use mir.ValLaws.{toZ-ofZ}
-use Rattle.model.specs.Integers.{lift, drop}
+use Rattle.model.specs.Integers.{positivePart, negativePart}
 use Rattle.float.proofs.from_i64.Statement.{statement}
 use Rattle.float.proofs.from_i64.Tie as tie
 
-exact : (z : ℤ) → lift z ≤ 2 ^ 53 → drop z ≤ 2 ^ 53 → T (inFloat binary64 z)
+exact : (z : ℤ) → positivePart z ≤ 2 ^ 53 → negativePart z ≤ 2 ^ 53 → T (inFloat binary64 z)
 unfolding inFloat
 exact (pos n) l d = le→leb n (2 ^ 53) l
 exact (negsuc n) l d = le→leb (suc n) (2 ^ 53) d

@@ -5,28 +5,28 @@ use borrow.Author.Needs.{needs}
 use lib.Dec.{ltb}
 use lib.IntN.{ℤ, pos, negsuc, natAbs}
 use Rattle.model.specs.Limits.{wedgeLimit}
-use Rattle.model.specs.Integers.{lift, drop}
+use Rattle.model.specs.Integers.{positivePart, negativePart}
 use Rattle.forming.proofs.Cell.{widens, widened}
 use Rattle.gauge.proofs.far_wedge.Statement.{statement}
 use Rattle.gauge.proofs.far_wedge.Tie as tie
 
-either-part : (z : ℤ) → (ltb wedgeLimit (lift z) || ltb wedgeLimit (drop z)) ≡ ltb wedgeLimit (natAbs z)
+either-part : (z : ℤ) → (ltb wedgeLimit (positivePart z) || ltb wedgeLimit (negativePart z)) ≡ ltb wedgeLimit (natAbs z)
 either-part (pos n) = or-false (ltb wedgeLimit n)
 either-part (negsuc n) = refl
 
 cast-wide : tie.Need-cast-wide
 cast-wide c = widens (c .fits .wedge)
 
-lift-requires : tie.Need-lift-requires
-lift-requires c κs = search needs
+positive-part-requires : tie.Need-positive-part-requires
+positive-part-requires c κs = search needs
 
-drop-requires : tie.Need-drop-requires
-drop-requires c κs = search needs
+negative-part-requires : tie.Need-negative-part-requires
+negative-part-requires c κs = search needs
 
 returns : tie.Need-returns
 returns c =
     let s = c .before .before in
-    rw (c .before .lift .ensures, c .drop .ensures, widened (s .fits .wedge)) (either-part (s .args .wedge))
+    rw (c .before .positive-part .ensures, c .negative-part .ensures, widened (s .fits .wedge)) (either-part (s .args .wedge))
 
 pub far-wedge-spec : {M : Type 1} → statement M
-far-wedge-spec = tie.close (tie.spec cast-wide lift-requires drop-requires returns)
+far-wedge-spec = tie.close (tie.spec cast-wide positive-part-requires negative-part-requires returns)

@@ -6,22 +6,22 @@ use lib.Dec.{ltb}
 use lib.IntN.{ℤ, pos, negsuc, natAbs}
 use mir.Facts.{toZ-ofZ}
 use Rattle.model.specs.Limits.{sourceLimit}
-use Rattle.model.specs.Integers.{lift, drop}
+use Rattle.model.specs.Integers.{positivePart, negativePart}
 use Rattle.limits.proofs.far_source.Statement.{statement}
 use Rattle.limits.proofs.far_source.Tie as tie
 
-either-part : (s : ℤ) → (ltb sourceLimit (lift s) || ltb sourceLimit (drop s)) ≡ ltb sourceLimit (natAbs s)
+either-part : (s : ℤ) → (ltb sourceLimit (positivePart s) || ltb sourceLimit (negativePart s)) ≡ ltb sourceLimit (natAbs s)
 either-part (pos n) = or-false (ltb sourceLimit n)
 either-part (negsuc n) = refl
 
-lift-requires : tie.Need-lift-requires
-lift-requires c κs = search needs
+positive-part-requires : tie.Need-positive-part-requires
+positive-part-requires c κs = search needs
 
-drop-requires : tie.Need-drop-requires
-drop-requires c κs = search needs
+negative-part-requires : tie.Need-negative-part-requires
+negative-part-requires c κs = search needs
 
 returns : tie.Need-returns
 returns c = cc (toZ-ofZ (c .before .before .fits .source), either-part (c .before .before .args .source))
 
 pub far-source-spec : {M : Type 1} → statement M
-far-source-spec = tie.close (tie.spec lift-requires drop-requires returns)
+far-source-spec = tie.close (tie.spec positive-part-requires negative-part-requires returns)

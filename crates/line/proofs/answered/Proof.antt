@@ -1,6 +1,7 @@
 -- `line::answered` meets its contract: the two decisions are the two answers.
 use mathlib.Core.Path.{ap, sym}
 use borrow.Author.Needs.{needs}
+use Rattle.model.specs.Result.{answered}
 use Rattle.proposal.specs.Decision.{decisionOf}
 use Rattle.line.proofs.answered.Statement.{statement}
 use Rattle.line.proofs.answered.Tie as tie
@@ -12,10 +13,10 @@ enum-told : tie.Need-enum-told
 enum-told c = search needs
 
 returns : tie.Need-returns
-returns c = ap decisionOf (sym (c .before .decision .given .1))
+returns c = ap (λ d. answered (decisionOf d)) (sym (c .before .decision .given .1))
 
 returns-2 : tie.Need-returns-2
-returns-2 c = search needs
+returns-2 c = ap (λ d. answered (decisionOf d)) (sym (c .enum-told .given .1))
 
 pub answered-spec : {M : Type 1} → statement M
 answered-spec = tie.close (tie.spec enum-known-decision enum-told returns returns-2)

@@ -7,7 +7,7 @@ use denote.Ref.{now}
 use Rattle.model.specs.Refusals.{pass, checkOf}
 use Rattle.model.specs.Film.{Film, filmOf}
 use Rattle.model.proofs.Bare.{margin-sourceless}
-use Rattle.line.proofs.Calls.{lineTests, line-tested, Ready, line-ready, estimate-passed, estimate-refused}
+use Rattle.line.proofs.Calls.{lineTests, line-tested, LinePassed, line-ready, estimate-passed, estimate-refused}
 use Rattle.line.proofs.estimate.Statement.{statement}
 use Rattle.line.proofs.estimate.Tie as tie
 
@@ -33,7 +33,7 @@ tests e = e .before .before
 passed : (e : tie.After-enum-told) → let a = start (tests e) .args in lineTests (film (tests e)) (now (a .field)) (now (a .proposal)) (a .line) ≡ pass
 passed e = sym (tested (tests e)) ∙ ap checkOf (e .enum-told .given .1)
 
-ready : (e : tie.After-enum-told) → let a = start (tests e) .args in Ready (film (tests e)) (now (a .field)) (now (a .proposal)) (a .line)
+ready : (e : tie.After-enum-told) → let a = start (tests e) .args in LinePassed (film (tests e)) (now (a .field)) (now (a .proposal)) (a .line)
 ready e = let a = start (tests e) .args in line-ready (film (tests e)) (now (a .field)) (now (a .proposal)) (a .line) (passed e)
 
 line-test-requires : tie.Need-line-test-requires

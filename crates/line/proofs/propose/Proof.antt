@@ -5,7 +5,7 @@ use borrow.Author.Needs.{needs}
 use denote.Ref.{now}
 use Rattle.model.specs.Refusals.{pass, checkOf}
 use Rattle.model.specs.Film.{Film, filmOf}
-use Rattle.line.proofs.Calls.{lineTests, line-tested, Ready, line-ready, propose-passed, propose-refused}
+use Rattle.line.proofs.Calls.{lineTests, line-tested, LinePassed, line-ready, propose-passed, propose-refused}
 use Rattle.line.proofs.propose.Statement.{statement}
 use Rattle.line.proofs.propose.Tie as tie
 
@@ -31,7 +31,7 @@ tests e = e .before .before
 passed : (e : tie.After-enum-told) → let a = start (tests e) .args in lineTests (film (tests e)) (now (a .field)) (now (a .proposal)) (a .line) ≡ pass
 passed e = sym (tested (tests e)) ∙ ap checkOf (e .enum-told .given .1)
 
-ready : (e : tie.After-enum-told) → let a = start (tests e) .args in Ready (film (tests e)) (now (a .field)) (now (a .proposal)) (a .line)
+ready : (e : tie.After-enum-told) → let a = start (tests e) .args in LinePassed (film (tests e)) (now (a .field)) (now (a .proposal)) (a .line)
 ready e = let a = start (tests e) .args in line-ready (film (tests e)) (now (a .field)) (now (a .proposal)) (a .line) (passed e)
 
 line-test-requires : tie.Need-line-test-requires
@@ -73,7 +73,8 @@ returns c =
     let l = x .before .before in
     let e = l .before in
     let a = start (tests e) .args in
-    propose-passed (film (tests e)) (now (a .field)) (now (a .proposal)) (a .line) (passed e) (rw (c .answered .ensures) (rw (l .line-start .ensures) at (x .propose .ensures)))
+    rw (c .answered .ensures)
+    (propose-passed (film (tests e)) (now (a .field)) (now (a .proposal)) (a .line) (passed e) (rw (l .line-start .ensures) at (x .propose .ensures)))
 
 same-length-2 : tie.Need-same-length-2
 same-length-2 c = search needs

@@ -10,11 +10,11 @@ use mir.Syntax.{w64}
 use mir.Val.{SFits}
 use mir.Facts.{toZ-ofZ}
 use Rattle.monotone.specs.Linear.{requiredOf}
-use Rattle.model.specs.Integers.{lift}
+use Rattle.model.specs.Integers.{positivePart}
 use Rattle.model.specs.Film.{Film, filmOf, sizeOf, dominance}
-use Rattle.grid.specs.Pull.{Loaded}
+use Rattle.grid.specs.Pull.{Aligned}
 use Rattle.grid.proofs.Limited.{limited-loaded}
-use Rattle.margin.proofs.LeastMargin.{margin-at-sources, dominance-some, dominance-bounded, lift-fits, inside-found, inside-fits, dominance-found}
+use Rattle.margin.proofs.LeastMargin.{margin-at-sources, dominance-some, dominance-bounded, positive-fits, inside-found, inside-fits, dominance-found}
 use Rattle.margin.proofs.margin_at.Statement.{statement}
 use Rattle.margin.proofs.margin_at.Tie as tie
 
@@ -28,7 +28,7 @@ inside-grid : (c : tie.Start) → c .args .at < sizeOf (film c)
 inside-grid c = omega (arith, c .pre .0 .1 .limited .sized .weights-len, c .pre .1 .1)
 
 loaded : (c : tie.Start) {numbers : List ℕ} → length numbers ≡ length (now (c .args .weights))
-    → Loaded (film c .columns) (film c .diagonals) (film c .rights) (film c .ups) (film c .sources) numbers
+    → Aligned (film c .columns) (film c .diagonals) (film c .rights) (film c .ups) (film c .sources) numbers
 loaded c e = limited-loaded (c .pre .0 .1 .limited) (e ∙ c .pre .0 .1 .limited .sized .weights-len)
 
 cast-columns : tie.Need-cast-columns
@@ -65,20 +65,20 @@ slack-requires c κs =
     let s = p .before .before .before .before .before .before .before .before in
     dominance-bounded (s .pre .0 .1 .limited) (s .args .at) (p .pull-at2 .result) (inside-grid s) (p .pull-at2 .ensures .1)
 
-lift-requires : tie.Need-lift-requires
-lift-requires c κs = search needs
+positive-part-requires : tie.Need-positive-part-requires
+positive-part-requires c κs = search needs
 
-abbrev start : tie.After-lift → tie.Start
+abbrev start : tie.After-positive-part → tie.Start
 start c = c .before .before .before .before .before .before .before .before .before .before .before .before
 
--- what `lift` is given is the dominance
-lifted : (c : tie.After-lift) → c .lift .result ≡ lift (dominance (film (start c)) (start c .args .at))
-lifted c =
+-- what `positivePart` is given is the dominance
+positive-is : (c : tie.After-positive-part) → c .positive-part .result ≡ positivePart (dominance (film (start c)) (start c .args .at))
+positive-is c =
     let l = c .before in
     let s = start c in
     let pull = l .before .before .before .pull-at2 .ensures .0 in
     let d = dominance-found (film s) (s .pre .0 .1) (s .args .at) (inside-grid s) _ _ pull (l .slack .ensures) in
-    c .lift .ensures ∙ ap lift (toZ-ofZ (sfits-of (l .slack .ok)) ∙ d)
+    c .positive-part .ensures ∙ ap positivePart (toZ-ofZ (sfits-of (l .slack .ok)) ∙ d)
 
 quotient-up-requires : tie.Need-quotient-up-requires
 quotient-up-requires c κs =
@@ -87,7 +87,7 @@ quotient-up-requires c κs =
     let some = dominance-some (film s) (s .pre .0 .1) (s .args .at) (inside-grid s) in
     let fits : SFits w64 (c .before .slack .result) = sfits-of (c .before .slack .ok) in (
       inside-fits (film s) (s .pre .0 .1) (s .args .at) (inside-grid s) (s .pre .1 .0) _ pull,
-      (rw (lifted c) some, rw (c .lift .ensures, toZ-ofZ fits) (lift-fits _ fits)),
+      (rw (positive-is c) some, rw (c .positive-part .ensures, toZ-ofZ fits) (positive-fits _ fits)),
     )
 
 returns : tie.Need-returns
@@ -96,7 +96,7 @@ returns c =
     let pull = c .before .before .before .before .before .before .pull-at .ensures .0 in
     let t = inside-found (film s) (s .pre .0 .1) (s .args .at) (inside-grid s) (s .pre .1 .0) _ pull in
     c .quotient-up .ensures
-    ∙ ap₂ (λ (d t : ℕ). requiredOf d 0 t) (lifted (c .before)) t
+    ∙ ap₂ (λ (d t : ℕ). requiredOf d 0 t) (positive-is (c .before)) t
     ∙ margin-at-sources _ _ _ _ _ _ _
 
 pub margin-at-spec : {M : Type 1} → statement M
@@ -111,6 +111,6 @@ margin-at-spec =
     mul-slack-2
     shared-slice-read-slack-2
     slack-requires
-    lift-requires
+    positive-part-requires
     quotient-up-requires
     returns)

@@ -1,6 +1,7 @@
 -- `ordered_sweep::answered` meets its contract: each end of a sweep is the answer of that name, with its counts, which are asked to fit.
 use mathlib.Core.Path.{ap}
 use borrow.Author.Needs.{needs}
+use Rattle.model.specs.Result.{answered}
 use Rattle.model.specs.Run.{done, stopped, over}
 use Rattle.model.specs.declared.Counts.{Counts}
 use Rattle.ordered_sweep.proofs.answered.Statement.{statement}
@@ -25,13 +26,13 @@ counts-requires-3 : tie.Need-counts-requires-3
 counts-requires-3 c κs = rw (c .before .swept3 .given .1) at (c .before .before .before .pre)
 
 returns : tie.Need-returns
-returns c = rw (c .before .before .swept .given .1) (ap done (c .counts .ensures))
+returns c = rw (c .before .before .swept .given .1) (ap (λ (k : Counts). answered (done k)) (c .counts .ensures))
 
 returns-2 : tie.Need-returns-2
-returns-2 c = rw (c .before .before .swept2 .given .1) (ap stopped (c .counts2 .ensures))
+returns-2 c = rw (c .before .before .swept2 .given .1) (ap (λ (k : Counts). answered (stopped k)) (c .counts2 .ensures))
 
 returns-3 : tie.Need-returns-3
-returns-3 c = rw (c .before .before .swept3 .given .1) (ap (λ (k : Counts). over (c .before .before .swept3 .given .0 .0) k) (c .counts3 .ensures))
+returns-3 c = rw (c .before .before .swept3 .given .1) (ap (λ (k : Counts). answered (over (c .before .before .swept3 .given .0 .0) k)) (c .counts3 .ensures))
 
 pub answered-spec : {M : Type 1} → statement M
 answered-spec =

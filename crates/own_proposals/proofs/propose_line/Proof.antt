@@ -1,4 +1,4 @@
--- `own_proposals::propose_line` meets its contract: the line is inside the grid, the offer is the model's estimate, and the decision on it is the model's too.
+-- `own_proposals::propose_line` meets its contract: the line is inside the grid, the proposal is the model's estimate, and the decision on it is the model's too.
 use mathlib.Core.Path.{_∙_}
 use Prim.Native.Nat.{_+_, _≤_}
 use native.Mathlib.Omega.{arith}

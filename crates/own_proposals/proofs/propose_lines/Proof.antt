@@ -13,11 +13,11 @@ use Rattle.own_proposals.proofs.propose_lines.Statement.{statement}
 use Rattle.own_proposals.proofs.propose_lines.Tie as tie
 
 abbrev Inv-loop : tie.InvT-loop
-Inv-loop head weights diagonals rights ups sources field₀ offer₀ margin accepted₀ line₀ field offer accepted line =
-    (line ≤ head .rows) × (length offer ≡ head .columns) × Proposing (filmOf head weights diagonals rights ups sources) field₀ field accepted line
+Inv-loop head weights diagonals rights ups sources field₀ proposal₀ margin accepted₀ line₀ field proposal accepted line =
+    (line ≤ head .rows) × (length proposal ≡ head .columns) × Proposing (filmOf head weights diagonals rights ups sources) field₀ field accepted line
 
 abbrev μ-loop : tie.MeasureT-loop
-μ-loop head weights diagonals rights ups sources field₀ offer₀ margin accepted₀ line₀ field offer accepted line = head .rows - line
+μ-loop head weights diagonals rights ups sources field₀ proposal₀ margin accepted₀ line₀ field proposal accepted line = head .rows - line
 
 abbrev Start : Type 0
 Start = tie.Start Inv-loop μ-loop

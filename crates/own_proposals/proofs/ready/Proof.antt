@@ -25,8 +25,8 @@ returns-2 c = let s = start (c .before .before) in ready-off (film s) (s .args .
 cast-columns : tie.Need-cast-columns
 cast-columns c = search needs
 
-array-borrow-prefix-offer : tie.Need-array-borrow-prefix-offer
-array-borrow-prefix-offer c = start (c .before .before .before .before) .pre .0 .limited .sized .columns-low
+array-borrow-prefix-proposal : tie.Need-array-borrow-prefix-proposal
+array-borrow-prefix-proposal c = start (c .before .before .before .before) .pre .0 .limited .sized .columns-low
 
 slice-aggregate-propose-lines : tie.Need-slice-aggregate-propose-lines
 slice-aggregate-propose-lines c = sym (length-take-le _ _ (start (c .before .before .before .before .before) .pre .0 .limited .sized .columns-low))
@@ -53,7 +53,7 @@ ready-spec =
     returns
     returns-2
     cast-columns
-    array-borrow-prefix-offer
+    array-borrow-prefix-proposal
     slice-aggregate-propose-lines
     propose-lines-requires
     same-length

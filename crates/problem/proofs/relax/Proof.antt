@@ -4,8 +4,8 @@ use borrow.Author.Needs.{needs}
 use denote.Ref.{now}
 use Rattle.model.specs.Refusals.{pass, checkOf}
 use Rattle.model.specs.Film.{Film, filmOf}
-use Rattle.model.specs.Relaxation.{visitCheck}
-use Rattle.problem.proofs.Calls.{visit-ready, visit-tested, relax-passed, relax-refused}
+use Rattle.model.specs.Relaxation.{pointCheck}
+use Rattle.problem.proofs.Calls.{point-ready, point-tested, relax-passed, relax-refused}
 use Rattle.problem.proofs.relax.Statement.{statement}
 use Rattle.problem.proofs.relax.Tie as tie
 
@@ -17,17 +17,17 @@ abbrev film : tie.After-field-tests → Film
 film t = let a = start t .args in filmOf (a .head) (now (a .weights)) (now (a .diagonals)) (now (a .rights)) (now (a .ups)) (now (a .sources))
 
 -- the tests find what document 01's do
-tested : (t : tie.After-field-tests) → let a = start t .args in checkOf (t .field-tests .result) ≡ visitCheck (film t) (now (a .field)) (a .at)
+tested : (t : tie.After-field-tests) → let a = start t .args in checkOf (t .field-tests .result) ≡ pointCheck (film t) (now (a .field)) (a .at)
 tested t =
     let a = start t .args in
     let x = t .before .before .cell-test in
-    visit-tested (film t) (now (a .field)) (a .at) (t .field-tests .result) (x .result) (t .field-tests .ensures) (x .ensures)
+    point-tested (film t) (now (a .field)) (a .at) (t .field-tests .result) (x .result) (t .field-tests .ensures) (x .ensures)
 
 -- they have passed
 abbrev tests : tie.After-enum-told → tie.After-field-tests
 tests e = e .before .before
 
-passed : (e : tie.After-enum-told) → let a = start (tests e) .args in visitCheck (film (tests e)) (now (a .field)) (a .at) ≡ pass
+passed : (e : tie.After-enum-told) → let a = start (tests e) .args in pointCheck (film (tests e)) (now (a .field)) (a .at) ≡ pass
 passed e = sym (tested (tests e)) ∙ ap checkOf (e .enum-told .given .1)
 
 cell-test-requires : tie.Need-cell-test-requires
@@ -43,7 +43,7 @@ relax-cell-requires : tie.Need-relax-cell-requires
 relax-cell-requires c κs =
     let e = c .before in
     let a = start (tests e) .args in
-    let R = visit-ready (film (tests e)) (now (a .field)) (a .at) (passed e) in
+    let R = point-ready (film (tests e)) (now (a .field)) (a .at) (passed e) in
     ((now (a .weights), R .limited), (R .len, R .inside))
 
 enum-known-r : tie.Need-enum-known-r

@@ -1,4 +1,4 @@
--- `problem::relax_cell` meets its contract: the visit goes to the larger of the cell's pressure and what it requires, and finds what the model's finds.
+-- `problem::relax_cell` meets its contract: the relaxation goes to the larger of the cell's pressure and what it requires, and finds what the model's finds.
 use mathlib.Core.Path.{_≡_, ap, _∙_}
 use native.Mathlib.Omega.{arith}
 use borrow.Author.Needs.{needs}
@@ -9,7 +9,7 @@ use Rattle.model.specs.Film.{Film, filmOf}
 use Rattle.model.specs.Relaxation.{required}
 use Rattle.model.proofs.Bare.{bare}
 use Rattle.grid.proofs.Limited.{limited-loaded}
-use Rattle.visit.specs.Relaxation.{kindOf}
+use Rattle.pointwise.specs.Relaxation.{kindOf}
 use Rattle.problem.proofs.Calls.{raised-fits, cell-required, gives-quiet, gives-raised, gives-over}
 use Rattle.problem.proofs.relax_cell.Statement.{statement}
 use Rattle.problem.proofs.relax_cell.Tie as tie
@@ -48,8 +48,8 @@ cell-at-requires c κs =
 raise-requires : tie.Need-raise-requires
 raise-requires c κs = search needs
 
-visit-at-requires : tie.Need-visit-at-requires
-visit-at-requires c κs = search needs
+relax-at-requires : tie.Need-relax-at-requires
+relax-at-requires c κs = search needs
 
 enum-told : tie.Need-enum-told
 enum-told c = search needs
@@ -58,7 +58,7 @@ enum-told-2 : tie.Need-enum-told-2
 enum-told-2 c = search needs
 
 cast-t21 : tie.Need-cast-t21
-cast-t21 c = omega (arith, raised-fits (c .before .before .before .before .visit-at .ensures) (ap kindOf (c .enum-told2 .given .1)))
+cast-t21 c = omega (arith, raised-fits (c .before .before .before .before .relax-at .ensures) (ap kindOf (c .enum-told2 .given .1)))
 
 enum-told-3 : tie.Need-enum-told-3
 enum-told-3 c = search needs
@@ -67,19 +67,19 @@ same-length : tie.Need-same-length
 same-length c = search needs
 
 returns : tie.Need-returns
-returns c = let x = c .before .before .before .before in gives-quiet _ (x .visit-at .ensures) (target (x .before .before)) (ap kindOf (c .enum-told .given .1))
+returns c = let x = c .before .before .before .before in gives-quiet _ (x .relax-at .ensures) (target (x .before .before)) (ap kindOf (c .enum-told .given .1))
 
 same-length-2 : tie.Need-same-length-2
 same-length-2 c = search needs
 
 returns-2 : tie.Need-returns-2
-returns-2 c = let x = c .before .before .before .before in gives-raised _ (x .visit-at .ensures) (target (x .before .before)) (ap kindOf (c .enum-told2 .given .1))
+returns-2 c = let x = c .before .before .before .before in gives-raised _ (x .relax-at .ensures) (target (x .before .before)) (ap kindOf (c .enum-told2 .given .1))
 
 same-length-3 : tie.Need-same-length-3
 same-length-3 c = search needs
 
 returns-3 : tie.Need-returns-3
-returns-3 c = let x = c .before .before .before .before in gives-over _ (x .visit-at .ensures) (target (x .before .before)) (ap kindOf (c .enum-told3 .given .1))
+returns-3 c = let x = c .before .before .before .before in gives-over _ (x .relax-at .ensures) (target (x .before .before)) (ap kindOf (c .enum-told3 .given .1))
 
 pub relax-cell-spec : {M : Type 1} → statement M
 relax-cell-spec =
@@ -90,7 +90,7 @@ relax-cell-spec =
     cast-columns
     cell-at-requires
     raise-requires
-    visit-at-requires
+    relax-at-requires
     enum-told
     enum-told-2
     cast-t21

@@ -4,9 +4,9 @@ use borrow.Author.Needs.{needs, sfits-of}
 use denote.Ref.{now}
 use Rattle.model.specs.Refusals.{pass, checkOf}
 use Rattle.model.specs.Film.{Film, filmOf}
-use Rattle.model.specs.Relaxation.{visitCheck}
+use Rattle.model.specs.Relaxation.{pointCheck}
 use mir.Facts.{toZ-ofZ}
-use Rattle.problem.proofs.Calls.{visit-ready, visit-tested, slack-passed, slack-refused}
+use Rattle.problem.proofs.Calls.{point-ready, point-tested, slack-passed, slack-refused}
 use Rattle.problem.proofs.slack.Statement.{statement}
 use Rattle.problem.proofs.slack.Tie as tie
 
@@ -18,17 +18,17 @@ abbrev film : tie.After-field-tests → Film
 film t = let a = start t .args in filmOf (a .head) (now (a .weights)) (now (a .diagonals)) (now (a .rights)) (now (a .ups)) (now (a .sources))
 
 -- the tests find what document 01's do
-tested : (t : tie.After-field-tests) → let a = start t .args in checkOf (t .field-tests .result) ≡ visitCheck (film t) (now (a .field)) (a .at)
+tested : (t : tie.After-field-tests) → let a = start t .args in checkOf (t .field-tests .result) ≡ pointCheck (film t) (now (a .field)) (a .at)
 tested t =
     let a = start t .args in
     let x = t .before .cell-test in
-    visit-tested (film t) (now (a .field)) (a .at) (t .field-tests .result) (x .result) (t .field-tests .ensures) (x .ensures)
+    point-tested (film t) (now (a .field)) (a .at) (t .field-tests .result) (x .result) (t .field-tests .ensures) (x .ensures)
 
 -- they have passed
 abbrev tests : tie.After-enum-told → tie.After-field-tests
 tests e = e .before .before
 
-passed : (e : tie.After-enum-told) → let a = start (tests e) .args in visitCheck (film (tests e)) (now (a .field)) (a .at) ≡ pass
+passed : (e : tie.After-enum-told) → let a = start (tests e) .args in pointCheck (film (tests e)) (now (a .field)) (a .at) ≡ pass
 passed e = sym (tested (tests e)) ∙ ap checkOf (e .enum-told .given .1)
 
 cell-test-requires : tie.Need-cell-test-requires
@@ -43,7 +43,7 @@ enum-told c = search needs
 slack-of-requires : tie.Need-slack-of-requires
 slack-of-requires c κs =
     let a = start (tests c) .args in
-    let R = visit-ready (film (tests c)) (now (a .field)) (a .at) (passed c) in
+    let R = point-ready (film (tests c)) (now (a .field)) (a .at) (passed c) in
     ((now (a .weights), R .limited), (R .len, R .inside))
 
 enum-known-r : tie.Need-enum-known-r

@@ -1,6 +1,6 @@
--- `relaxation::stepped` meets its contract, by a walk of its statements: the slice goes to `visit_step` for good, and the local counter is lent to
+-- `relaxation::stepped` meets its contract, by a walk of its statements: the slice goes to `relax_step` for good, and the local counter is lent to
 -- it for a lifetime that ends with the call. Parameters and result are plain, so a caller needs no walk.
--- Of `visit_step` the walk knows that it meets its contract.
+-- Of `relax_step` the walk knows that it meets its contract.
 use mathlib.Core.Path.{_≡_, refl, ap, subst}
 use Prim.Native.Nat.{ℕ, _<_, _^_}
 use mathlib.Core.List.{[], _∷_, List}
@@ -45,21 +45,21 @@ use denote.Triple.Spec.{Meets, tripleOf}
 use denote.Triple.Table.{entered, cited}
 use denote.Triple.Walked.{says, needs, Stays, stay-none, gave-slice, walkOf, goes-none, goes-gave-slice, Walks, ends-at, walked, walk-meets}
 use denote.Exit.{yes}
-use Rattle.visit.specs.Relaxation.{Room, Stepped}
-use Rattle.visit.specs.declared.Visit.{Visit}
-use Rattle.visit.specs.declared.After.{After}
-use Rattle.visit.specs.declared.Counter.{Counter}
+use Rattle.pointwise.specs.Relaxation.{Room, Stepped}
+use Rattle.pointwise.specs.declared.Found.{Found}
+use Rattle.pointwise.specs.declared.After.{After}
+use Rattle.pointwise.specs.declared.Counter.{Counter}
 use Rattle.relaxation.proofs.Local.{in-memory, out-of-memory}
-use Rattle.visit.proofs.Counter as T
-use Rattle.visit.proofs.Counter.Laws as T′
-use Rattle.visit.proofs.Visit as S
-use Rattle.visit.proofs.Visit.Laws as S′
-use Rattle.visit.proofs.After as R
-use Rattle.visit.proofs.After.Laws as R′
-use Rattle.relaxation.proofs.visit_step as step
-use Rattle.relaxation.proofs.visit_step.Symbol as step-def
-use Rattle.relaxation.proofs.visit_step.Symbol.{name as #relaxation·visit-step}
-use Rattle.relaxation.proofs.visit_step.Met as step-thm
+use Rattle.pointwise.proofs.Counter as T
+use Rattle.pointwise.proofs.Counter.Laws as T′
+use Rattle.pointwise.proofs.Found as S
+use Rattle.pointwise.proofs.Found.Laws as S′
+use Rattle.pointwise.proofs.After as R
+use Rattle.pointwise.proofs.After.Laws as R′
+use Rattle.relaxation.proofs.relax_step as step
+use Rattle.relaxation.proofs.relax_step.Symbol as step-def
+use Rattle.relaxation.proofs.relax_step.Symbol.{name as #relaxation·relax-step}
+use Rattle.relaxation.proofs.relax_step.Met as step-thm
 use Rattle.relaxation.proofs.stepped.Key.{name as #relaxation·stepped}
 use Rattle.relaxation.proofs.stepped as stepped
 use Rattle.relaxation.proofs.stepped.Statement as stated
@@ -116,25 +116,25 @@ module _ {M : Type 1} (𝓤 : URA M) (H : Heap 𝓤) (A : Atoms 𝓤) (W : Given
   abbrev counts : Left → Counter
   counts zs = zs .1 .1 .1 .1 .0
 
-  -- the struct that is returned, of a counter and a visit
-  abbrev made : Counter → Visit → After
-  made r y = record { visit = y; counter = r }
+  -- the struct that is returned, of a counter and what was found
+  abbrev made : Counter → Found → After
+  made r y = record { found = y; counter = r }
 
-  abbrev valʸ : Visit → Val
+  abbrev valʸ : Found → Val
   valʸ y = EL.val S.the-type S′.the-laws y
 
-  is-made : (r : Counter) (y : Visit) → Is T.the-row r (T′.lowered r ∷ []) → Is S.the-row y (valʸ y ∷ [])
+  is-made : (r : Counter) (y : Found) → Is T.the-row r (T′.lowered r ∷ []) → Is S.the-row y (valʸ y ∷ [])
       → Is R.the-row (made r y) (LL.vals R.the-type R′.the-laws (made r y))
   is-made r y is isʸ = LL.owes R.the-type R′.the-laws (made r y) (isʸ, (is, tt))
 
-  whole-is : (y : Visit) (r : Counter) (w : Val) → Is S.the-row y (w ∷ []) → Is T.the-row r (T′.lowered r ∷ [])
+  whole-is : (y : Found) (r : Counter) (w : Val) → Is S.the-row y (w ∷ []) → Is T.the-row r (T′.lowered r ∷ [])
       → Is R.the-row (made r y) (LL.vals R.the-type R′.the-laws (made r y))
   whole-is y r w isʷ is = is-made r y is (subst (Is S.the-row y) (EL.tells S.the-type S′.the-laws y _ isʷ) isʷ)
 
-  abbrev mach : Counter → Visit → Val
+  abbrev mach : Counter → Found → Val
   mach r y = only (LL.vals R.the-type R′.the-laws (made r y))
 
-  exits : (y : Visit) (zs : List ℕ) (r : Counter) → Is R.the-row (made r y) (mach r y ∷ []) → length zs ≡ length (f .now)
+  exits : (y : Found) (zs : List ℕ) (r : Counter) → Is R.the-row (made r y) (mach r y ∷ []) → length zs ≡ length (f .now)
       → Stepped (f .now) n t k h (made r y) zs
       → ent 𝓤 (⋆ 𝓤 H A (‵ (flft κ q) ∷ ‵ (finally u32 (f .name) zs) ∷ [])) (Post (mach r y))
   exits y zs r is l e =
@@ -148,7 +148,7 @@ module _ {M : Type 1} (𝓤 : URA M) (H : Heap 𝓤) (A : Atoms 𝓤) (W : Given
       owned ! usize (Is usize) (uint-makes 𝓤 H A W w64) n _ (refl, n-ok) $ fjoin ! $ move ! (1 ∷ 0 ∷ []) $ fjoin ! $
       owned ! R.the-row (Is R.the-row) ((LL.makes R.the-type R′.the-plain) 𝓤 H A) (made r y) _ is $ move ! (1 ∷ 0 ∷ []) $ done !
 
-  module _ (C : Calls 𝓤 H) (Λ : Loops 𝓤 H) (fm : FmC 𝓤 H (W .laws) C) (known : Triple 𝓤 (C #relaxation·visit-step) (StepC 𝓤 H A at-mem run)) where
+  module _ (C : Calls 𝓤 H) (Λ : Loops 𝓤 H) (fm : FmC 𝓤 H (W .laws) C) (known : Triple 𝓤 (C #relaxation·relax-step) (StepC 𝓤 H A at-mem run)) where
     abbrev typed : (r : Counter) → Is T.the-row r (T′.lowered r ∷ []) → Holds (hasTy T′.mir (T′.lowered r)) × WT (T′.lowered r)
     typed r is = LL.lawful T.the-type T′.the-laws 𝓤 H A W .typed r _ is .0
 
@@ -178,11 +178,11 @@ module _ {M : Type 1} (𝓤 : URA M) (H : Heap 𝓤) (A : Atoms 𝓤) (W : Given
         await ! tt $ pick ! (λ γ. split ! $
         move ! (27 ∷ []) $ fsplit ! $ move ! (28 ∷ []) $ split ! $ move ! (0 ∷ 6 ∷ 2 ∷ 4 ∷ []) $ join ! $
         use3 W (raw (StepC 𝓤 H A at-mem run .pre (to l₆ ν γ))) (goes l₆ ν γ) $
-        -- [what `visit_step` asks; true; …; the lender's part; _11; …; _10; …; _9; …; _8; …; _7; …; what frees _6; _5; …; _4; …; _3; …; _2; …; _1; …; _0; …]
+        -- [what `relax_step` asks; true; …; the lender's part; _11; …; _10; …; _9; …; _8; …; _7; …; what frees _6; _5; …; _4; …; _3; …; _2; …; _1; …; _0; …]
         calls-at ! fm (StepC 𝓤 H A at-mem run) known (to l₆ ν γ) (and-then ! (load ! (from ! (stop !)) (look ! 8 refl))
         (and-then ! (load ! (from ! (stop !)) (look ! 21 refl)) (and-then ! (load ! (from ! (stop !)) (look ! 19 refl))
         (and-then ! (load ! (from ! (stop !)) (look ! 17 refl)) (and-then ! (load ! (from ! (stop !)) (look ! 6 refl)) (no-more !)))))) (λ w.
-        use1 W (later (some (λ (y : Visit). ((‵ (flft κ q) ⊛ ‵ (flft (ν ∷ []) fullShare) ⊛ ‵ ftrue) ⊛ ‵ (S.the-row .own y (w ∷ [])))
+        use1 W (later (some (λ (y : Found). ((‵ (flft κ q) ⊛ ‵ (flft (ν ∷ []) fullShare) ⊛ ‵ ftrue) ⊛ ‵ (S.the-row .own y (w ∷ [])))
         ⊛ raw (ensured 𝓤 H A step.ended (step.clauses 𝓤 H A at-mem run) (κ, (ν ∷ [], tt)) (passed l₆ γ) tt y)))) (id⊢ 𝓤 _) $
         await ! tt $ pick ! (λ y.
         split ! $ move ! (1 ∷ []) $
@@ -216,7 +216,7 @@ module _ {M : Type 1} (𝓤 : URA M) (H : Heap 𝓤) (A : Atoms 𝓤) (W : Given
         keep ! (2 ∷ 4 ∷ []) $ by ! (exits y (zs .0) (counts zs) (whole-is y (counts zs) w isʷ is) l e)))))))))))))))))))))))
 
 module _ {M : Type 1} (𝓤 : URA M) (H : Heap 𝓤) (A : Atoms 𝓤) (W : Given 𝓤 H A) (mem : Memory → SProp 𝓤) (run : Routine → Fun 𝓤) where
-  stepped-walks : (C : Calls 𝓤 H) (Λ : Loops 𝓤 H) → FmC 𝓤 H (W .laws) C → Triple 𝓤 (C #relaxation·visit-step) (StepC 𝓤 H A mem run)
+  stepped-walks : (C : Calls 𝓤 H) (Λ : Loops 𝓤 H) → FmC 𝓤 H (W .laws) C → Triple 𝓤 (C #relaxation·relax-step) (StepC 𝓤 H A mem run)
       → Walks 𝓤 H A stepped.ended stayed (WpFn 𝓤 H C Λ code.function) (stepped.clauses 𝓤 H A mem run)
   stepped-walks C Λ fm known = walked 𝓤 H A stepped.ended stayed (stepped.clauses 𝓤 H A mem run) (WpFn 𝓤 H C Λ code.function)
       (λ κs. (slice-vals, (uint-vals w64, (uint-vals w64, (uint-vals w32, (LL.vals T.the-type T′.the-laws, tt))))))
@@ -226,7 +226,7 @@ module _ {M : Type 1} (𝓤 : URA M) (H : Heap 𝓤) (A : Atoms 𝓤) (W : Given
       (are .1 .1 .1 .0 .1) (are .1 .1 .1 .1 .0) (given .0) (given .1) C Λ fm known (are .0 .0 .1)))
 
 stepped-meets : {M : Type 1} (𝓤 : URA M) (H : Heap 𝓤) (A : Atoms 𝓤) (W : Given 𝓤 H A) (mem : Memory → SProp 𝓤) (run : Routine → Fun 𝓤) (𝓣 : Tables 𝓤 H)
-    → Triple 𝓤 (𝓣 .C #relaxation·visit-step) (StepC 𝓤 H A mem run)
+    → Triple 𝓤 (𝓣 .C #relaxation·relax-step) (StepC 𝓤 H A mem run)
     → Meets 𝓤 H A stepped.signature (WpFn 𝓤 H (𝓣 .C) (𝓣 .Λ) code.function) (stepped.spec 𝓤 H A mem run)
 stepped-meets 𝓤 H A W mem run 𝓣 known = walk-meets 𝓤 H A stepped.ended stayed W
     (goes-gave-slice 𝓤 H A W 1 0 tt (plain (λ _. u32)), (goes-none 𝓤 H A W 1 (λ _. usize) yes (λ κs x f. refl), (goes-none 𝓤 H A W 1 (λ _. u64) yes (λ κs x f. refl), (goes-none 𝓤 H A W 1 (λ _. u32) yes (λ κs x f. refl), (goes-none 𝓤 H A W 1 (λ _. T.the-row) yes (λ κs x f. refl), tt)))))
@@ -239,4 +239,4 @@ stepped-spec 𝓤 H 𝓜 𝓖 𝓡 =
     entered 𝓤 H (tripleOf 𝓤 H (𝓖 .A) stepped.signature (stepped.spec 𝓤 H (𝓖 .A) (𝓜 .mem) (𝓡 .run)))
     (tables 𝓤 H 𝓜 𝓡 code.env .C) (tables 𝓤 H 𝓜 𝓡 code.env .Λ) #relaxation·stepped code.function (code.unfolded 𝓤 H 𝓜 𝓡)
     (stepped-meets 𝓤 H (𝓖 .A) (givenOf 𝓤 H 𝓜 𝓖) (𝓜 .mem) (𝓡 .run) (tablesOf 𝓤 H 𝓜 (tables 𝓤 H 𝓜 𝓡 code.env))
-    (cited 𝓤 H (StepC 𝓤 H (𝓖 .A) (𝓜 .mem) (𝓡 .run)) 𝓜 𝓡 code.env #relaxation·visit-step step-def.routine code.calls-relaxation·visit-step (step-thm.met 𝓤 H 𝓜 𝓖 𝓡)))
+    (cited 𝓤 H (StepC 𝓤 H (𝓖 .A) (𝓜 .mem) (𝓡 .run)) 𝓜 𝓡 code.env #relaxation·relax-step step-def.routine code.calls-relaxation·relax-step (step-thm.met 𝓤 H 𝓜 𝓖 𝓡)))

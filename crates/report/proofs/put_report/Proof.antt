@@ -15,12 +15,11 @@ use Rattle.model.specs.Refusals.{pass}
 use Rattle.model.specs.Gauge.{Gauge}
 use Rattle.model.specs.Coefficients.{formed}
 use Rattle.model.specs.File.{Bytes, Values, gaugeCheck}
-use Rattle.model.specs.FileCalls.{gaugeOf, loadAnswerOf, Loads}
+use Rattle.model.specs.FileCalls.{gaugeOf, loadAnswerOf, Loads, used}
 use Rattle.model.specs.Report.{refusedLine, filmReport, reportOf}
 use Rattle.model.proofs.File.{Shaped, gauge-passes, gauge-shape}
 use Rattle.model.proofs.Sides.{cells-low}
 use Rattle.forming.proofs.Cell.{ring-low}
-use Rattle.file.proofs.Inverse.{used}
 use Rattle.text.specs.Writes.{Fits, Writes}
 use Rattle.report.proofs.Texts.{Read, read-report, refusal-report}
 use borrow.Author.Needs.{needs}

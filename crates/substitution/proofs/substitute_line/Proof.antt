@@ -1,4 +1,4 @@
--- `substitution::substitute_line` meets its contract: after each turn the columns from j on hold the model's offers, whatever film the line is of (`Substituting`).
+-- `substitution::substitute_line` meets its contract: after each turn the columns from j on hold the model's proposals, whatever film the line is of (`Substituting`).
 use mathlib.Core.Path.{_≡_}
 use Prim.Native.Nat.{ℕ, _+_, _-_, _<_}
 use native.Mathlib.Omega.{arith}
@@ -32,7 +32,7 @@ record Places (c : tie.In-loop Inv-loop μ-loop) : Type 0 where
   right : entry c .args .start + column c < length (now (entry c .args .rights))
   pivot : column c < length (now (entry c .args .pivots))
   side : column c < length (now (entry c .args .sides))
-  offer : column c < length (c .before .loop .proposal)
+  place : column c < length (c .before .loop .proposal)
 
 places : (c : tie.In-loop Inv-loop μ-loop) → Places c
 places c =
@@ -44,7 +44,7 @@ places c =
       right = omega (arith, P .0 .1, I .low, t);
       pivot = omega (arith, P .1 .0, I .low, t);
       side = omega (arith, P .1 .1, I .low, t);
-      offer = omega (arith, I .len, I .low, t);
+      place = omega (arith, I .len, I .low, t);
     }
 
 sub-j : tie.Need-sub-j Inv-loop μ-loop
@@ -96,7 +96,7 @@ mul-proposal : tie.Need-mul-proposal Inv-loop μ-loop
 mul-proposal c = let t = c .before .before .before .before .before .before .before .before .before in omega (arith, places t, entry t .good)
 
 slice-write-proposal : tie.Need-slice-write-proposal Inv-loop μ-loop
-slice-write-proposal c = places (c .before .before .before .before .before .before .before .before .before) .offer
+slice-write-proposal c = places (c .before .before .before .before .before .before .before .before .before) .place
 
 loop-less : tie.Need-loop-less Inv-loop μ-loop
 loop-less c = search needs

@@ -1,8 +1,8 @@
--- `view::fields_test` meets its contract: where all fields have passed, the walk has come to the end of the list, and what stands there is stray.
+-- `view::fields_test` meets its contract: where all fields have passed, the walk has come to the end of the list, and what stands there is unexpected.
 use mathlib.Core.Path.{refl, ap, _∙_}
 use denote.Ref.{now}
 use Rattle.model.specs.Refusals.{_orElse_, checkOf}
-use Rattle.model.specs.Fields.{strayAt}
+use Rattle.model.specs.Fields.{unexpectedAt}
 use Rattle.model.specs.File.{endOffset}
 use Rattle.refusals.proofs.Chain.{joined, orElse-given}
 use borrow.Author.Needs.{needs}
@@ -24,8 +24,8 @@ returns c =
     let a = w .before .before .args in
     let walked = w .walk .ensures in
     joined {x = checkOf (w .walk .result .tested)} (c .or-else .ensures) refl (c .before .fail-if .ensures)
-    ∙ orElse-given (checkOf (w .walk .result .tested)) (λ p. ap (strayAt (now (a .file))) (walked .comes p))
-    ∙ ap (λ x. x orElse strayAt (now (a .file)) (endOffset (a .n) (a .t))) (walked .finds)
+    ∙ orElse-given (checkOf (w .walk .result .tested)) (λ p. ap (unexpectedAt (now (a .file))) (walked .comes p))
+    ∙ ap (λ x. x orElse unexpectedAt (now (a .file)) (endOffset (a .n) (a .t))) (walked .finds)
 
 pub fields-test-spec : {M : Type 1} → statement M
 fields-test-spec = tie.close (tie.spec walk-requires fail-if-requires or-else-requires returns)

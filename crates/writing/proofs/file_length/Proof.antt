@@ -6,7 +6,7 @@ use borrow.Author.Tests.{ltb-false}
 use lib.Dec.{ltb}
 use Rattle.model.specs.Limits.{sideLimit}
 use Rattle.model.proofs.Checks.{or-parts}
-use Rattle.writing.specs.Ready.{fileLength}
+use Rattle.writing.specs.Writable.{fileLength}
 use Rattle.model.proofs.Sides.{cells-low}
 use Rattle.forming.proofs.Cell.{ring-low}
 use Rattle.writing.proofs.Film.{length-sum}

@@ -1,0 +1,74 @@
+-- Demand 3 of the calls themselves: from nothing but the records that stand in their `ensures`.
+use mathlib.Core.Path.{_≡_, sym, ap, _∙_, subst}
+use mathlib.Core.Bool.{Bool, true, _&&_}
+use mathlib.Core.List.{List}
+use Prim.Native.Nat.{ℕ, _*_}
+use borrow.Author.Tests.{eq-eqb}
+use lib.Dec.{eqb}
+use lib.ListN.{length, take}
+use Rattle.monotone.specs.History.{Verdict, Each}
+use Rattle.model.specs.Refusals.{pass}
+use Rattle.model.specs.Gauge.{Gauge}
+use Rattle.model.specs.Film.{Film, sizeOf, filmOf}
+use Rattle.model.specs.Coefficients.{formed}
+use Rattle.model.specs.Result.{Answer, answered}
+use Rattle.model.specs.File.{Bytes, readFilm}
+use Rattle.model.specs.FileCalls.{used, formCheck}
+use Rattle.model.specs.Demand.{Step, exitOf, verdictOf, zeroField, History, Claimed}
+use Rattle.model.specs.Session.{Session}
+use Rattle.model.proofs.File.{read-values}
+use Rattle.model.proofs.Inverse.{read-film}
+use Rattle.model.proofs.Demand.{demand-3}
+
+module _ (bytes : List ℕ) (B : Bytes bytes) where
+  module _ {f : Film} (S : Session bytes f) where
+    -- the film's numbers, as the reader laid them over its buffers
+    abbrev numbers : Gauge
+    numbers = used (S .head) (S .wedge) (S .weights′) (S .thicknesses′)
+
+    pub session-reads : readFilm bytes ≡ answered numbers
+    session-reads = read-film bytes (S .weights) (S .thicknesses) (S .weights′) (S .thicknesses′) (S .head) (S .wedge) B (S .loads)
+
+    passes : formCheck numbers (S .diagonals) (S .rights) (S .ups) (S .sources) ≡ pass
+    passes =
+        let v = read-values bytes numbers B session-reads in
+        rw (
+          eq-eqb _ _ (v .0 .weights-len),
+          eq-eqb _ _ (v .0 .thicknesses-len),
+          eq-eqb _ _ (S .diagonals-len),
+          eq-eqb _ _ (S .rights-len),
+          eq-eqb _ _ (S .ups-len),
+          eq-eqb _ _ (S .sources-len),
+        )
+        (v .1)
+
+    -- the forming call does not refuse it, ..
+    pub session-formed : S .answer ≡ answered tt
+    session-formed = rw passes at (S .forms .answer-is)
+
+    -- .. what runs and proposals are lent is the file's film, ..
+    pub session-film : f ≡ formed numbers
+    session-film =
+        let d : S .diagonals′ ≡ formed numbers .diagonals = rw passes at (S .forms .diagonals-are) in
+        let r : S .rights′ ≡ formed numbers .rights = rw passes at (S .forms .rights-are) in
+        let u : S .ups′ ≡ formed numbers .ups = rw passes at (S .forms .ups-are) in
+        let s : S .sources′ ≡ formed numbers .sources = rw passes at (S .forms .sources-are) in
+        S .lent ∙ (λ k. filmOf (S .head) (take (S .head .rows * S .head .columns) (S .weights′)) (d k) (r k) (u k) (s k))
+
+    -- .. and demand 3 holds of every list of runs and proposals that are lent it: a step's promise is the `ensures` of `run` and `propose`.
+    pub demand-3-calls : Claimed f
+    demand-3-calls = subst Claimed (sym session-film) (demand-3 bytes numbers B session-reads)
+
+  -- two sessions on one file, with buffers of their own, lend the same film ..
+  pub session-one : {f g : Film} → Session bytes f → Session bytes g → f ≡ g
+  session-one S T =
+      let same : answered (numbers S) ≡ answered (numbers T) = sym (session-reads S) ∙ session-reads T in
+      let one : numbers S ≡ numbers T = cc in
+      session-film S ∙ ap formed one ∙ sym (session-film T)
+
+  -- .. so that any two Done in them leave the same field.
+  pub session-same : {f g : Film} → Session bytes f → Session bytes g → (ss ts : List Step) → History f ss → History g ts
+      → Each exitOf (λ _ s. Each exitOf (λ _ t. verdictOf (sizeOf f) s ≡ Verdict.done → verdictOf (sizeOf g) t ≡ Verdict.done → exitOf s ≡ exitOf t) (zeroField g) ts) (zeroField f) ss
+  session-same {f} {g} S T ss ts G H =
+      subst (λ (h : Film). History h ts → Each exitOf (λ _ s. Each exitOf (λ _ t. verdictOf (sizeOf f) s ≡ Verdict.done → verdictOf (sizeOf h) t ≡ Verdict.done → exitOf s ≡ exitOf t) (zeroField h) ts) (zeroField f) ss)
+      (session-one S T) (demand-3-calls S .same ss ts G) H
