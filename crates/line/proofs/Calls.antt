@@ -6,12 +6,12 @@ use borrow.Author.Tests.{eqb-true}
 use lib.Dec.{eqb}
 use lib.ListN.{length}
 use Rattle.monotone.specs.Rule.{Bounded}
-use Rattle.model.specs.Refusals.{Check, pass, fail, checkOf}
+use Rattle.model.specs.Refusals.{pass, fail, checkOf}
 use Rattle.model.specs.Film.{Film, sizeOf, rule}
 use Rattle.model.specs.Checks.{outside, fieldCheck, lineCheck, filmCheck}
 use Rattle.model.specs.Accepted.{Accepted}
 use Rattle.model.specs.Result.{answered, refused, Gives}
-use Rattle.model.specs.Proposal.{ProposalAnswer, lineStart, propose, proposeCall}
+use Rattle.model.specs.Proposal.{ProposalAnswer, lineStart, propose, rowCheck, proposeCall}
 use Rattle.model.specs.Margin.{margin, marginCall}
 use Rattle.model.specs.Estimate.{estimate, estimateCall}
 use Rattle.model.proofs.Checks.{within, failIf-pass, field-passes}
@@ -19,13 +19,9 @@ use Rattle.model.proofs.Bare.{bare, sourceless, propose-bare, margin-sourceless
 use Rattle.model.specs.declared.Tested.{Tested}
 use Rattle.proposal.proofs.Lines.{row-inside}
 
--- the tests of a call for a line that is lent a field and a slice of the line's numbers
-abbrev pub lineTests : Film → List ℕ → List ℕ → ℕ → Check
-lineTests f p numbers line = fieldCheck f p (eqb (length numbers) (f .columns)) pass (lineCheck f line)
-
 -- the tests from what they answered: t of the film and the field, and x of the line
 pub line-tested : (f : Film) (p numbers : List ℕ) (line : ℕ) (t x : Tested)
-    → checkOf t ≡ fieldCheck f p (eqb (length numbers) (f .columns)) pass (checkOf x) → checkOf x ≡ lineCheck f line → checkOf t ≡ lineTests f p numbers line
+    → checkOf t ≡ fieldCheck f p (eqb (length numbers) (f .columns)) pass (checkOf x) → checkOf x ≡ lineCheck f line → checkOf t ≡ rowCheck f p numbers line
 line-tested f p numbers line t x e g = rw (← g) e
 
 -- what has passed
@@ -37,7 +33,7 @@ pub record LinePassed (f : Film) (p numbers : List ℕ) (line : ℕ) : Type 0 wh
   pub line-low : line ≤ f .rows
   pub inside : lineStart f line + f .columns ≤ sizeOf f
 
-pub line-ready : (f : Film) (p numbers : List ℕ) (line : ℕ) → lineTests f p numbers line ≡ pass → LinePassed f p numbers line
+pub line-ready : (f : Film) (p numbers : List ℕ) (line : ℕ) → rowCheck f p numbers line ≡ pass → LinePassed f p numbers line
 line-ready f p numbers line e =
     let P = field-passes f p (eqb (length numbers) (f .columns)) pass (lineCheck f line) e in
     let l = within line 1 (f .rows) (failIf-pass (outside line 1 (f .rows)) 13 0 (P .place-is)) in
@@ -51,19 +47,19 @@ line-ready f p numbers line e =
     }
 
 module _ (f : Film) (p numbers : List ℕ) (line : ℕ) where
-  pub propose-passed : {a : ProposalAnswer} {exit : List ℕ} → lineTests f p numbers line ≡ pass
+  pub propose-passed : {a : ProposalAnswer} {exit : List ℕ} → rowCheck f p numbers line ≡ pass
       → Gives (propose (bare f) (lineStart f line) numbers p) a exit → Gives (proposeCall f line numbers p) (answered a) exit
   propose-passed e G = rw (e, ← (propose-bare f (lineStart f line) numbers p)) (record { answer-is = ap answered (G .answer-is); lent-is = G .lent-is })
 
-  pub propose-refused : {number place : ℕ} → lineTests f p numbers line ≡ fail number place
+  pub propose-refused : {number place : ℕ} → rowCheck f p numbers line ≡ fail number place
       → Gives (proposeCall f line numbers p) (refused number place) p
   propose-refused e = record { answer-is = rw e; lent-is = rw e }
 
-  pub estimate-passed : {exit : List ℕ} → lineTests f p numbers line ≡ pass → exit ≡ estimate f p (lineStart f line)
+  pub estimate-passed : {exit : List ℕ} → rowCheck f p numbers line ≡ pass → exit ≡ estimate f p (lineStart f line)
       → Gives (estimateCall f line p numbers) (answered tt) exit
   estimate-passed e g = record { answer-is = rw e; lent-is = rw e g }
 
-  pub estimate-refused : {number place : ℕ} → lineTests f p numbers line ≡ fail number place
+  pub estimate-refused : {number place : ℕ} → rowCheck f p numbers line ≡ fail number place
       → Gives (estimateCall f line p numbers) (refused number place) numbers
   estimate-refused e = record { answer-is = rw e; lent-is = rw e }
 

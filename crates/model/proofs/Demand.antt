@@ -14,18 +14,18 @@ use Rattle.monotone.specs.History.{Each, Promise}
 use Rattle.monotone.proofs.History.{zeros-start, zeros-total, least-or-none, each-map, each-both, history, history-same}
 use Rattle.model.specs.Refusals.{Check, pass, fail, _orElse_, failIf}
 use Rattle.model.specs.Film.{Film, sizeOf, systemOf, rule, Feasible, Least}
-use Rattle.model.specs.Checks.{orderCheck, lineCheck, fieldCheck, filmCheck}
+use Rattle.model.specs.Checks.{orderCheck, lineCheck, filmCheck}
 use Rattle.model.specs.Accepted.{Accepted}
-use Rattle.model.specs.Result.{Answer, answered, refused, answerBy, foundBy, Result, callBy, Gives}
+use Rattle.model.specs.Result.{Answer, answered, refused, answerBy, foundBy}
 use Rattle.model.specs.Proposal.{ProposalAnswer, propose, lineStart}
-use Rattle.model.specs.Run.{RunAnswer, run}
+use Rattle.model.specs.Run.{RunAnswer, run, runCheck}
 use Rattle.model.specs.Gauge.{Gauge}
 use Rattle.model.specs.Coefficients.{formed}
 use Rattle.model.specs.File.{readFilm, Bytes}
 use Rattle.model.specs.Demand.{Call, Step, ran, proposed, callOf, callsOf, exitOf, refusalOf, verdictOf, Kept, zeroField, History, ruled, ruledAll, callCheck, Holds, Claimed}
 use Rattle.model.proofs.Film.{rule-monotone, feasible-to, feasible-from, least-is, least-exists, least-feasible}
 use Rattle.model.proofs.Checks.{check-passes, accepted-positive}
-use Rattle.model.proofs.Refused.{call-refused}
+use Rattle.model.proofs.Refused.{run-refused, propose-refused}
 use Rattle.model.proofs.History.{step-good}
 use Rattle.model.proofs.Forming.{field-accepted, file-film}
 
@@ -63,14 +63,9 @@ refused-is : {A : Type 0} (x : Answer A) {number place : ℕ} → foundBy x ≡ 
 refused-is (answered a) e = let z : _≡_ {A = ℕ} 0 1 = cc in absurd (omega arith)
 refused-is (refused n q) e = cc
 
-refused-leaves : {A : Type 0} (tests : Check) (r : Result A) (lent : List ℕ) {a : Answer A} {exit : List ℕ} → Gives (callBy tests r lent) a exit
-    → (number place : ℕ) → foundBy a ≡ fail number place → exit ≡ lent
-refused-leaves tests r lent {a} G number place e = call-refused tests r lent (rw (refused-is a e) at G)
-
 step-unchanged : (f : Film) (entry : List ℕ) (s : Step) → Kept f entry s → (number place : ℕ) → refusalOf s ≡ fail number place → exitOf s ≡ entry
-step-unchanged f p (ran budget order on answer exit) k = refused-leaves (fieldCheck f p true (orderCheck order) pass) (run f budget order on p) p k
-step-unchanged f p (proposed line proposal answer exit) k =
-    refused-leaves (fieldCheck f p (eqb (length proposal) (f .columns)) pass (lineCheck f line)) (propose f (lineStart f line) proposal p) p k
+step-unchanged f p (ran budget order on answer exit) k number place e = run-refused f budget order on p (rw (refused-is answer e) at k)
+step-unchanged f p (proposed line proposal answer exit) k number place e = propose-refused f line proposal p (rw (refused-is answer e) at k)
 
 module _ (f : Film) (A : Accepted f) where
   positive : Positive (systemOf f)
@@ -78,7 +73,7 @@ module _ (f : Film) (A : Accepted f) where
 
   step-refusal : (entry : List ℕ) (s : Step) → Kept f entry s → theory.Bounded (rule f) entry → refusalOf s ≡ callCheck f (callOf s)
   step-refusal p (ran budget order on answer exit) k B =
-      let passes : fieldCheck f p true (orderCheck order) pass ≡ orderCheck order = field-accepted f p true (orderCheck order) pass A B ∙ or-pass (orderCheck order) in
+      let passes : runCheck f p order ≡ orderCheck order = field-accepted f p true (orderCheck order) pass A B ∙ or-pass (orderCheck order) in
       ap foundBy (k .answer-is) ∙ found-by _ (run f budget order on p .answer) ∙ passes
     where
       or-pass : (x : Check) → (x orElse pass) ≡ x

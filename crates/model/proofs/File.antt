@@ -281,7 +281,7 @@ written-reads g v e =
     let end : length l ≡ endOffset (cellsIn l) (ringIn l) = file-length g v ∙ ap (λ (h : Gauge). endOffset (cellsOf h) (ringOf h)) (sym same) in
     let ends : unexpectedAt l (endOffset (cellsIn l) (ringIn l)) ≡ pass = rw (le-ltb (endOffset (cellsIn l) (ringIn l)) (length l) (omega (arith, end))) in
     let passes : fileCheck l ≡ pass = pass-both (pass-both walks ends) (passed .dominant) in
-    rw passes (ap answered same)
+    ap₂ answerBy passes same
 
 -- ---- the writer's file consists of bytes
 

@@ -14,11 +14,11 @@ use Rattle.monotone.specs.History.{Verdict, Good}
 use Rattle.monotone.proofs.History.{good-same, good-proposal}
 use Rattle.model.specs.Refusals.{Check, pass, fail}
 use Rattle.model.specs.Film.{Film, sizeOf, LeastFrom, rule}
-use Rattle.model.specs.Checks.{orderCheck, lineCheck, fieldCheck}
+use Rattle.model.specs.Checks.{orderCheck, lineCheck}
 use Rattle.model.specs.Accepted.{Accepted}
 use Rattle.model.specs.Result.{Answer, answered, answerBy, kept, Result, callBy, Gives}
-use Rattle.model.specs.Proposal.{lineStart, propose, proposeCall}
-use Rattle.model.specs.Run.{RunAnswer, done, stopped, over, countedIn, run, runCall}
+use Rattle.model.specs.Proposal.{lineStart, propose, rowCheck}
+use Rattle.model.specs.Run.{RunAnswer, done, stopped, over, countedIn, run, runCheck, runCall}
 use Rattle.model.specs.Demand.{Step, ran, proposed, exitOf, verdictOf, Kept}
 use Rattle.model.specs.declared.Counts.{Counts}
 use Rattle.model.proofs.Film.{least-from}
@@ -40,7 +40,7 @@ call-answered (fail number place) r lent G = let z : _≡_ {A = ℕ} 0 1 = cc in
 -- A run call on any film and field that answered.
 module _ (f : Film) (budget order : ℕ) (on : Bool) (p : List ℕ) {exit : List ℕ} where
   answered-run : {a : RunAnswer} → Gives (runCall f budget order on p) (answered a) exit
-      → Answered (fieldCheck f p true (orderCheck order) pass) (run f budget order on p) a exit
+      → Answered (runCheck f p order) (run f budget order on p) a exit
   answered-run G = call-answered _ (run f budget order on p) p G
 
   started : {a : RunAnswer} → Gives (runCall f budget order on p) (answered a) exit → FieldPassed f p true (orderCheck order) pass
@@ -70,16 +70,16 @@ step-verdict n budget order on (over i c) exit = refl
 module _ (f : Film) (A : Accepted f) where
   pub step-good : (entry : List ℕ) (s : Step) → Kept f entry s → Bounded (rule f) entry → Good (rule f) entry (exitOf s) (verdictOf (sizeOf f) s)
   step-good p (ran budget order on answer exit) k B =
-      rw (k .answer-is, k .lent-is) (go (fieldCheck f p true (orderCheck order) pass))
+      rw (k .answer-is, k .lent-is) (go (runCheck f p order))
     where
       go : (x : Check) → let r = run f budget order on p in
           Good (rule f) p (kept x (r .lent) p) (verdictOf (sizeOf f) (ran budget order on (answerBy x (r .answer)) (kept x (r .lent) p)))
       go pass = rw (step-verdict (sizeOf f) budget order on (run f budget order on p .answer) (run f budget order on p .lent)) (run-good f A budget order on p B)
       go (fail number place) = good-same B
   step-good p (proposed line proposal answer exit) k B =
-      rw (k .lent-is) (go (fieldCheck f p (eqb (length proposal) (f .columns)) pass (lineCheck f line)) refl)
+      rw (k .lent-is) (go (rowCheck f p proposal line) refl)
     where
-      go : (x : Check) → fieldCheck f p (eqb (length proposal) (f .columns)) pass (lineCheck f line) ≡ x
+      go : (x : Check) → rowCheck f p proposal line ≡ x
           → Good (rule f) p (kept x (propose f (lineStart f line) proposal p .lent) p) Verdict.other
       go pass h =
           let P = field-passes f p (eqb (length proposal) (f .columns)) pass (lineCheck f line) h in

@@ -3,19 +3,17 @@
 use mathlib.Core.Bool.{Bool, true, false, cond, _&&_, _||_}
 use mathlib.Core.List.{List}
 use Prim.Native.Nat.{ℕ, zero, suc, _+_, _-_, _*_, _/_}
-use lib.Dec.{ltb, eqb}
+use lib.Dec.{ltb}
 use lib.IntN.{ℤ, pos, negℤ, _+ℤ_}
-use lib.ListN.{length, getD}
+use lib.ListN.{getD}
 use lib.Ieee.{Float, nan, inf, fin, binary64, up, down, add, sub, mul, div, lt, le, ofInt}
 use Rattle.monotone.specs.Links.{pull}
 use Rattle.model.specs.Limits.{estimateLimit}
 use Rattle.model.specs.Lists.{tabulate}
 use Rattle.model.specs.Integers.{negative}
-use Rattle.model.specs.Refusals.{pass}
 use Rattle.model.specs.Film.{Film, across, diagonalAt, rightAt, sourceAt, weightAt, slack}
-use Rattle.model.specs.Checks.{fieldCheck, lineCheck}
 use Rattle.model.specs.Result.{Answer, answered, refusal, Result, written, callBy}
-use Rattle.model.specs.Proposal.{lineStart}
+use Rattle.model.specs.Proposal.{lineStart, rowCheck}
 use Rattle.model.specs.Margin.{margin}
 use Rattle.model.specs.declared.Estimated.{Estimated}
 use Rattle.model.specs.declared.Estimated.the-variants as answers
@@ -105,5 +103,4 @@ estimateAnswerOf (answers.Refused r) = refusal r
 
 -- the call that writes the estimate of a line into a slice of C numbers
 abbrev pub estimateCall : Film → ℕ → List ℕ → List ℕ → Result (Answer (Unit {0}))
-estimateCall f line p out =
-    callBy (fieldCheck f p (eqb (length out) (f .columns)) pass (lineCheck f line)) (written (estimate f p (lineStart f line))) out
+estimateCall f line p out = callBy (rowCheck f p out line) (written (estimate f p (lineStart f line))) out

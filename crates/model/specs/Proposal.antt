@@ -7,7 +7,7 @@ use lib.Dec.{leb, ltb, eqb}
 use lib.ListN.{length, getD}
 use Rattle.model.specs.Lists.{tabulate, countBelow, allBelow}
 use Rattle.model.specs.Integers.{atMostZero}
-use Rattle.model.specs.Refusals.{pass}
+use Rattle.model.specs.Refusals.{Check, pass}
 use Rattle.model.specs.Film.{Film, sizeOf, slack}
 use Rattle.model.specs.Checks.{fieldCheck, lineCheck}
 use Rattle.model.specs.Result.{Answer, answered, refusal, Result, callBy}
@@ -70,7 +70,10 @@ decide taken f start p q =
 unfoldable pub propose : Film → ℕ → List ℕ → List ℕ → Result ProposalAnswer
 propose f start proposal p = decide (accepts f start p (raisedBy f start proposal p)) f start p (raisedBy f start proposal p)
 
+-- the tests of the calls that take a film, a field, and a slice of numbers for a line
+abbrev pub rowCheck : Film → List ℕ → List ℕ → ℕ → Check
+rowCheck f p numbers line = fieldCheck f p (eqb (length numbers) (f .columns)) pass (lineCheck f line)
+
 -- the call that proposes pressures for a line of the field p
 abbrev pub proposeCall : Film → ℕ → List ℕ → List ℕ → Result (Answer ProposalAnswer)
-proposeCall f line proposal p =
-    callBy (fieldCheck f p (eqb (length proposal) (f .columns)) pass (lineCheck f line)) (propose f (lineStart f line) proposal p) p
+proposeCall f line proposal p = callBy (rowCheck f p proposal line) (propose f (lineStart f line) proposal p) p

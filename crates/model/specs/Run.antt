@@ -5,7 +5,7 @@ use Prim.Native.Nat.{ℕ, zero, suc, _+_, _-_, _/_, _%_}
 use lib.Dec.{eqb}
 use Rattle.monotone.specs.Ordering.{splitOrder}
 use Rattle.monotone.specs.Sweep as theory
-use Rattle.model.specs.Refusals.{pass}
+use Rattle.model.specs.Refusals.{Check, pass}
 use Rattle.model.specs.Film.{Film, sizeOf, rule}
 use Rattle.model.specs.Checks.{fieldCheck, orderCheck}
 use Rattle.model.specs.Result.{Answer, answered, refusal, Result, callBy}
@@ -90,6 +90,10 @@ run f budget order on p =
     ended (theory.sweep (rule f) (ordering f order) budget (theory.begin (readied f budget on p .field)))
     (readied f budget on p .accepted)
 
+-- the tests of a run
+abbrev pub runCheck : Film → List ℕ → ℕ → Check
+runCheck f p order = fieldCheck f p true (orderCheck order) pass
+
 -- the call that makes a run on the field p
 abbrev pub runCall : Film → ℕ → ℕ → Bool → List ℕ → Result (Answer RunAnswer)
-runCall f budget order on p = callBy (fieldCheck f p true (orderCheck order) pass) (run f budget order on p) p
+runCall f budget order on p = callBy (runCheck f p order) (run f budget order on p) p

@@ -5,7 +5,8 @@ use borrow.Author.Needs.{needs}
 use denote.Ref.{now}
 use Rattle.model.specs.Refusals.{pass, checkOf}
 use Rattle.model.specs.Film.{Film, filmOf}
-use Rattle.line.proofs.Calls.{lineTests, line-tested, LinePassed, line-ready, propose-passed, propose-refused}
+use Rattle.model.specs.Proposal.{rowCheck}
+use Rattle.line.proofs.Calls.{line-tested, LinePassed, line-ready, propose-passed, propose-refused}
 use Rattle.line.proofs.propose.Statement.{statement}
 use Rattle.line.proofs.propose.Tie as tie
 
@@ -18,7 +19,7 @@ film t = let a = start t .args in filmOf (a .head) (now (a .weights)) (now (a .d
 
 -- the tests find what document 01's do
 tested : (t : tie.After-field-tests) → let a = start t .args in
-    checkOf (t .field-tests .result) ≡ lineTests (film t) (now (a .field)) (now (a .proposal)) (a .line)
+    checkOf (t .field-tests .result) ≡ rowCheck (film t) (now (a .field)) (now (a .proposal)) (a .line)
 tested t =
     let a = start t .args in
     let x = t .before .before .before .line-test in
@@ -28,7 +29,7 @@ tested t =
 abbrev tests : tie.After-enum-told → tie.After-field-tests
 tests e = e .before .before
 
-passed : (e : tie.After-enum-told) → let a = start (tests e) .args in lineTests (film (tests e)) (now (a .field)) (now (a .proposal)) (a .line) ≡ pass
+passed : (e : tie.After-enum-told) → let a = start (tests e) .args in rowCheck (film (tests e)) (now (a .field)) (now (a .proposal)) (a .line) ≡ pass
 passed e = sym (tested (tests e)) ∙ ap checkOf (e .enum-told .given .1)
 
 ready : (e : tie.After-enum-told) → let a = start (tests e) .args in LinePassed (film (tests e)) (now (a .field)) (now (a .proposal)) (a .line)

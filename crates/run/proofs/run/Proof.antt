@@ -6,7 +6,8 @@ use denote.Ref.{now}
 use Rattle.model.specs.Refusals.{pass, checkOf}
 use Rattle.model.specs.Film.{Film, filmOf}
 use Rattle.own_proposals.proofs.Proposals.{ready-bounded}
-use Rattle.run.proofs.Calls.{runTests, run-tested, run-ready, run-passed, run-refused}
+use Rattle.model.specs.Run.{runCheck}
+use Rattle.run.proofs.Calls.{run-tested, run-ready, run-passed, run-refused}
 use Rattle.run.proofs.run.Statement.{statement}
 use Rattle.run.proofs.run.Tie as tie
 
@@ -18,7 +19,7 @@ abbrev film : tie.After-field-tests → Film
 film t = let a = start t .args in filmOf (a .head) (now (a .weights)) (now (a .diagonals)) (now (a .rights)) (now (a .ups)) (now (a .sources))
 
 -- the tests find what document 01's do
-tested : (t : tie.After-field-tests) → let a = start t .args in checkOf (t .field-tests .result) ≡ runTests (film t) (now (a .field)) (a .order)
+tested : (t : tie.After-field-tests) → let a = start t .args in checkOf (t .field-tests .result) ≡ runCheck (film t) (now (a .field)) (a .order)
 tested t =
     let a = start t .args in
     run-tested (film t) (now (a .field)) (a .order) (t .field-tests .result) (t .before .before .order-test .result) (t .field-tests .ensures) (t .before .before .order-test .ensures)
@@ -27,7 +28,7 @@ tested t =
 abbrev tests : tie.After-enum-told → tie.After-field-tests
 tests e = e .before .before
 
-passed : (e : tie.After-enum-told) → let a = start (tests e) .args in runTests (film (tests e)) (now (a .field)) (a .order) ≡ pass
+passed : (e : tie.After-enum-told) → let a = start (tests e) .args in runCheck (film (tests e)) (now (a .field)) (a .order) ≡ pass
 passed e = sym (tested (tests e)) ∙ ap checkOf (e .enum-told .given .1)
 
 order-test-requires : tie.Need-order-test-requires
