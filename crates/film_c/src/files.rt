@@ -4,7 +4,7 @@ ghost use Rattle.model.specs.FileCalls.{gaugeOf, saveCall};
 ghost use Rattle.model.specs.ReportCall.{reportCall};
 ghost use Rattle.told.specs.Refused.{Told};
 ghost use Rattle.tell_files.specs.Files.{ReportTold};
-ghost use Rattle.film_c.specs.Lent.{lentHead, Leaves, ReadTold, FormTold};
+ghost use Rattle.archive.specs.Lent.{lentHead, Leaves, ReadTold, FormTold};
 
 // Writes a file's report at the start of out, and tells its length.
 #[no_mangle]

@@ -9,7 +9,7 @@
 // (slackCall, runCall, Loads, ..), told as specs/ of crates `tell`, `tell_files` and `told` say. As the calls themselves, they ask nothing of
 // their caller.
 ghost use mathlib.Core.Path.{_≡_};
-ghost use Rattle.film_c.specs.Lent.{lentHead};
+ghost use Rattle.archive.specs.Lent.{lentHead};
 use model::Head;
 
 mod numbers; // numbers.rt: the calls on a film as coefficients

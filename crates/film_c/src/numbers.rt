@@ -8,7 +8,7 @@ ghost use Rattle.model.specs.Estimate.{estimateCall};
 ghost use Rattle.model.specs.Run.{runCall};
 ghost use Rattle.told.specs.Refused.{Told};
 ghost use Rattle.tell.specs.Numbers.{SlackTold, MarginTold, RelaxTold, ProposeTold, RunTold};
-ghost use Rattle.film_c.specs.Lent.{lentHead, Leaves};
+ghost use Rattle.archive.specs.Lent.{lentHead, Leaves};
 
 // Tells the slack of one cell.
 #[no_mangle]

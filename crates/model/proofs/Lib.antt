@@ -12,6 +12,7 @@ pub mod Acceptance
 pub mod Estimate
 pub mod Run
 pub mod Refused
+pub mod Numbered
 pub mod History
 pub mod Demand
 pub mod Fields

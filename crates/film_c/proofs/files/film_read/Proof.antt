@@ -1,6 +1,6 @@
 -- `film_c::film_read` meets its contract: the public call promises its answer, and `tell_files::read` tells it.
 use borrow.Author.Needs.{needs}
-use Rattle.film_c.proofs.Told.{read-told}
+use Rattle.archive.proofs.Told.{read-told}
 use Rattle.film_c.proofs.files.film_read.Statement.{statement}
 use Rattle.film_c.proofs.files.film_read.Tie as tie
 

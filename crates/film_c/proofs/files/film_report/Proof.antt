@@ -1,6 +1,6 @@
 -- `film_c::film_report` meets its contract: the public call promises its answer, and `tell_files::report` tells it.
 use borrow.Author.Needs.{needs}
-use Rattle.film_c.proofs.Told.{leaves}
+use Rattle.archive.proofs.Told.{leaves}
 use Rattle.film_c.proofs.files.film_report.Statement.{statement}
 use Rattle.film_c.proofs.files.film_report.Tie as tie
 

@@ -1,7 +1,7 @@
 -- `film_c::film_write` meets its contract: the public call promises its answer for the head that `head_of` makes, and `tell_files::write` tells it.
 use mir.Facts.{toZ-ofZ}
 use borrow.Author.Needs.{needs}
-use Rattle.film_c.proofs.Told.{leaves}
+use Rattle.archive.proofs.Told.{leaves}
 use Rattle.film_c.proofs.files.film_write.Statement.{statement}
 use Rattle.film_c.proofs.files.film_write.Tie as tie
 

@@ -1,6 +1,6 @@
 -- `film_c::film_margin` meets its contract: the public call promises its answer for the head that `head_of` makes, and `tell::margin` tells it.
 use borrow.Author.Needs.{needs}
-use Rattle.film_c.proofs.Told.{margin-told}
+use Rattle.archive.proofs.Told.{margin-told}
 use Rattle.film_c.proofs.numbers.film_margin.Statement.{statement}
 use Rattle.film_c.proofs.numbers.film_margin.Tie as tie
 

@@ -1,6 +1,6 @@
 -- `film_c::film_propose` meets its contract: the public call promises its answer for the head that `head_of` makes, and `tell::propose` tells it.
 use borrow.Author.Needs.{needs}
-use Rattle.film_c.proofs.Told.{leaves}
+use Rattle.archive.proofs.Told.{leaves}
 use Rattle.film_c.proofs.numbers.film_propose.Statement.{statement}
 use Rattle.film_c.proofs.numbers.film_propose.Tie as tie
 

@@ -1,6 +1,6 @@
 -- `film_c::film_relax` meets its contract: the public call promises its answer for the head that `head_of` makes, and `tell::relax` tells it.
 use borrow.Author.Needs.{needs}
-use Rattle.film_c.proofs.Told.{leaves}
+use Rattle.archive.proofs.Told.{leaves}
 use Rattle.film_c.proofs.numbers.film_relax.Statement.{statement}
 use Rattle.film_c.proofs.numbers.film_relax.Tie as tie
 

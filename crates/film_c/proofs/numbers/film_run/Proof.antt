@@ -1,6 +1,6 @@
 -- `film_c::film_run` meets its contract: the public call promises its answer for the head that `head_of` makes, and `tell::run` tells it.
 use borrow.Author.Needs.{needs}
-use Rattle.film_c.proofs.Told.{leaves}
+use Rattle.archive.proofs.Told.{leaves}
 use Rattle.film_c.proofs.numbers.film_run.Statement.{statement}
 use Rattle.film_c.proofs.numbers.film_run.Tie as tie
 

@@ -1,6 +1,6 @@
 -- `film_c::film_slack` meets its contract: the public call promises its answer for the head that `head_of` makes, and `tell::slack` tells it.
 use borrow.Author.Needs.{needs}
-use Rattle.film_c.proofs.Told.{slack-told}
+use Rattle.archive.proofs.Told.{slack-told}
 use Rattle.film_c.proofs.numbers.film_slack.Statement.{statement}
 use Rattle.film_c.proofs.numbers.film_slack.Tie as tie
 

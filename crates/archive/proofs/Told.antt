@@ -9,7 +9,7 @@ use Rattle.model.specs.FileCalls.{LoadAnswer, Loads, Forms}
 use Rattle.told.specs.Refused.{Told}
 use Rattle.tell.specs.Numbers.{SlackTold, MarginTold}
 use Rattle.tell_files.specs.Files.{LoadTold}
-use Rattle.film_c.specs.Lent.{Leaves, ReadTold, FormTold}
+use Rattle.archive.specs.Lent.{Leaves, ReadTold, FormTold}
 
 pub slack-told : {a b : Answer ℤ} {z z′ : ℤ} {p n p′ : ℕ} → a ≡ b → SlackTold a z p n z′ p′ → SlackTold b z p n z′ p′
 slack-told {z = z} {z′ = z′} {p = p} {n = n} {p′ = p′} e told = subst (λ (x : Answer ℤ). SlackTold x z p n z′ p′) e told
