@@ -19,7 +19,7 @@ use Rattle.model.proofs.Checks.{orElse-parts, failIf-pass}
 use Rattle.model.proofs.File.{file-length, written-reads, read-writes, read-values}
 
 -- an answer that is no refusal comes from tests that passed
-answer-passed : {A : Type 0} (c : Check) (b : A) {a : A} → answered a ≡ answerBy c b → (c ≡ pass) × (a ≡ b)
+pub answer-passed : {A : Type 0} (c : Check) (b : A) {a : A} → answered a ≡ answerBy c b → (c ≡ pass) × (a ≡ b)
 answer-passed pass b e = (refl, cc)
 answer-passed (fail number place) b e = let z : _≡_ {A = ℕ} 0 1 = cc in absurd (omega arith)
 

@@ -5,20 +5,28 @@ use mathlib.Core.List.{List}
 use Prim.Native.Nat.{ℕ, _*_}
 use borrow.Author.Tests.{eq-eqb}
 use lib.Dec.{eqb}
-use lib.ListN.{length, take}
+use lib.IntN.{ℤ, pos}
+use lib.ListN.{length, take, replicate, length-replicate}
 use Rattle.monotone.specs.History.{Verdict, Each}
 use Rattle.model.specs.Refusals.{pass}
 use Rattle.model.specs.Gauge.{Gauge}
 use Rattle.model.specs.Film.{Film, sizeOf, filmOf}
 use Rattle.model.specs.Coefficients.{formed}
 use Rattle.model.specs.Result.{Answer, answered}
-use Rattle.model.specs.File.{Bytes, readFilm}
-use Rattle.model.specs.FileCalls.{used, formCheck}
+use Rattle.model.specs.File.{gaugeIn, fileCheck, readFilm, gaugeCheck, Bytes, Values}
+use Rattle.model.specs.FileCalls.{headOf, formCheck, loadAnswer, loadCheck, laidOver, Loads, used}
 use Rattle.model.specs.Demand.{Step, exitOf, verdictOf, zeroField, History, Claimed}
 use Rattle.model.specs.Session.{Session}
 use Rattle.model.proofs.File.{read-values}
-use Rattle.model.proofs.Inverse.{read-film}
+use Rattle.model.proofs.Inverse.{answer-passed, read-film}
 use Rattle.model.proofs.Demand.{demand-3}
+
+-- numbers that were read pass the forming call's tests, with slices of N
+form-passes : (g : Gauge) (diagonals rights ups : List ℕ) (sources : List ℤ) → Values g × (gaugeCheck g true ≡ pass)
+    → length diagonals ≡ g .rows * g .columns → length rights ≡ g .rows * g .columns → length ups ≡ g .rows * g .columns
+    → length sources ≡ g .rows * g .columns → formCheck g diagonals rights ups sources ≡ pass
+form-passes g diagonals rights ups sources v d r u s =
+    rw (eq-eqb _ _ (v .0 .weights-len), eq-eqb _ _ (v .0 .thicknesses-len), eq-eqb _ _ d, eq-eqb _ _ r, eq-eqb _ _ u, eq-eqb _ _ s) (v .1)
 
 module _ (bytes : List ℕ) (B : Bytes bytes) where
   module _ {f : Film} (S : Session bytes f) where
@@ -31,16 +39,9 @@ module _ (bytes : List ℕ) (B : Bytes bytes) where
 
     passes : formCheck numbers (S .diagonals) (S .rights) (S .ups) (S .sources) ≡ pass
     passes =
-        let v = read-values bytes numbers B session-reads in
-        rw (
-          eq-eqb _ _ (v .0 .weights-len),
-          eq-eqb _ _ (v .0 .thicknesses-len),
-          eq-eqb _ _ (S .diagonals-len),
-          eq-eqb _ _ (S .rights-len),
-          eq-eqb _ _ (S .ups-len),
-          eq-eqb _ _ (S .sources-len),
-        )
-        (v .1)
+        form-passes numbers (S .diagonals) (S .rights) (S .ups) (S .sources) (read-values bytes numbers B session-reads) (S .diagonals-len) (S .rights-len)
+        (S .ups-len)
+        (S .sources-len)
 
     -- the forming call does not refuse it, ..
     pub session-formed : S .answer ≡ answered tt
@@ -72,3 +73,49 @@ module _ (bytes : List ℕ) (B : Bytes bytes) where
   session-same {f} {g} S T ss ts G H =
       subst (λ (h : Film). History h ts → Each exitOf (λ _ s. Each exitOf (λ _ t. verdictOf (sizeOf f) s ≡ Verdict.done → verdictOf (sizeOf h) t ≡ Verdict.done → exitOf s ≡ exitOf t) (zeroField h) ts) (zeroField f) ss)
       (session-one S T) (demand-3-calls S .same ss ts G) H
+
+  -- No accepted file is left out: it has a session, on buffers and slices of zeros.
+  pub session-exists : (g : Gauge) → readFilm bytes ≡ answered g → Session bytes (formed g)
+  session-exists g e =
+      let read = answer-passed (fileCheck bytes) (gaugeIn bytes) (sym e) in
+      let n : ℕ = g .rows * g .columns in
+      let weights : List ℕ = replicate 1024 0 in
+      let thicknesses : List ℕ = replicate 1156 0 in
+      let opened : loadCheck bytes weights thicknesses ≡ pass = read .0 in
+      let weights′ : List ℕ = laidOver (gaugeIn bytes .weights) weights in
+      let thicknesses′ : List ℕ = laidOver (gaugeIn bytes .thicknesses) thicknesses in
+      let loads : Loads bytes weights thicknesses (answered (loadAnswer g)) weights′ thicknesses′ =
+          record { answer-is = rw opened (ap (λ (h : Gauge). answered (loadAnswer h)) (read .1)); weights-are = rw opened; thicknesses-are = rw opened } in
+      let laid : Gauge = used (headOf g) (g .wedge) weights′ thicknesses′ in
+      let reads : readFilm bytes ≡ answered laid = read-film bytes weights thicknesses weights′ thicknesses′ (headOf g) (g .wedge) B loads in
+      let same : answered g ≡ answered laid = sym e ∙ reads in
+      let one : g ≡ laid = cc in
+      let zeros : List ℕ = replicate n 0 in
+      let none : List ℤ = replicate n (pos 0) in
+      let size : length zeros ≡ n = length-replicate {A = ℕ} n 0 in
+      let signed : length none ≡ n = length-replicate {A = ℤ} n (pos 0) in
+      let passed : formCheck laid zeros zeros zeros none ≡ pass = form-passes laid zeros zeros zeros none (read-values bytes laid B reads) size size size signed in
+      record {
+        head = headOf g;
+        wedge = g .wedge;
+        weights = weights;
+        thicknesses = thicknesses;
+        weights′ = weights′;
+        thicknesses′ = thicknesses′;
+        loads = loads;
+        answer = answered tt;
+        diagonals = zeros;
+        rights = zeros;
+        ups = zeros;
+        sources = none;
+        diagonals-len = size;
+        rights-len = size;
+        ups-len = size;
+        sources-len = signed;
+        diagonals′ = formed laid .diagonals;
+        rights′ = formed laid .rights;
+        ups′ = formed laid .ups;
+        sources′ = formed laid .sources;
+        forms = record { answer-is = rw passed; diagonals-are = rw passed; rights-are = rw passed; ups-are = rw passed; sources-are = rw passed };
+        lent = ap formed one;
+      }
