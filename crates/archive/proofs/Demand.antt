@@ -8,7 +8,7 @@ use native.Mathlib.Omega.{arith}
 use lib.IntN.{ℤ}
 use lib.ListN.{length, take}
 use Rattle.model.specs.Refusals.{Check, pass, fail}
-use Rattle.model.specs.Result.{Answer, answered, answerBy, foundBy}
+use Rattle.model.specs.Result.{Answer, answered, answerBy, refusalIn}
 use Rattle.model.specs.Film.{Film, filmOf}
 use Rattle.model.specs.File.{gaugeIn, Bytes}
 use Rattle.model.specs.FileCalls.{LoadAnswer, film, loadAnswer, loadCheck, Loads, used}
@@ -24,7 +24,7 @@ use Rattle.tell_files.specs.Files.{LoadTold}
 use Rattle.archive.specs.Lent.{lentHead, Leaves, readAnswer, ReadTold, FormTold}
 
 -- a refusal's number is not 0, so that 0 is returned just where a call answered
-answered-0 : {A : Type 0} (tests : Check) (a : A) → Numbered tests → 0 ≡ numberIn (foundBy (answerBy tests a)) → answerBy tests a ≡ answered a
+answered-0 : {A : Type 0} (tests : Check) (a : A) → Numbered tests → 0 ≡ numberIn (refusalIn (answerBy tests a)) → answerBy tests a ≡ answered a
 answered-0 pass a n e = refl
 answered-0 (fail number place) a n e = absurd (omega (arith, n .some number place refl))
 

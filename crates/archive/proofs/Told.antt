@@ -4,7 +4,7 @@ use mathlib.Core.List.{List}
 use Prim.Native.Nat.{ℕ}
 use lib.IntN.{ℤ}
 use Rattle.model.specs.Gauge.{Gauge}
-use Rattle.model.specs.Result.{Answer, foundBy, Result, Gives}
+use Rattle.model.specs.Result.{Answer, refusalIn, Result, Gives}
 use Rattle.model.specs.FileCalls.{LoadAnswer, Loads, Forms}
 use Rattle.told.specs.Refused.{Told}
 use Rattle.tell.specs.Numbers.{SlackTold, MarginTold}
@@ -31,10 +31,10 @@ read-told {h = h} {h′ = h′} {z = z} {z′ = z′} {p = p} {n = n} {p′ = p�
 
 pub form-told :
     {g : Gauge} {d r u d′ r′ u′ : List ℕ} {s s′ : List ℤ} {a : Answer (Unit {0})} {p n p′ : ℕ} →
-    Forms g d r u s a d′ r′ u′ s′ → Told (foundBy a) p n p′ → FormTold g d r u s p n d′ r′ u′ s′ p′
+    Forms g d r u s a d′ r′ u′ s′ → Told (refusalIn a) p n p′ → FormTold g d r u s p n d′ r′ u′ s′ p′
 form-told {p = p} {n = n} {p′ = p′} forms told =
     record {
-      told = subst (λ (x : Answer (Unit {0})). Told (foundBy x) p n p′) (forms .answer-is) told;
+      told = subst (λ (x : Answer (Unit {0})). Told (refusalIn x) p n p′) (forms .answer-is) told;
       forms = record {
         answer-is = refl;
         diagonals-are = forms .diagonals-are;

@@ -5,7 +5,7 @@ use Prim.Native.Nat.{ℕ}
 use lib.IntN.{ℤ}
 use lib.ListN.{getD}
 use Rattle.model.specs.Gauge.{Gauge}
-use Rattle.model.specs.Result.{Answer, answerBy, foundBy, Result}
+use Rattle.model.specs.Result.{Answer, answerBy, refusalIn, Result}
 use Rattle.model.specs.File.{gaugeIn}
 use Rattle.model.specs.FileCalls.{LoadAnswer, Forms, Loads, formCheck, loadAnswer, loadCheck}
 use Rattle.model.specs.declared.Head.{Head}
@@ -36,5 +36,5 @@ formAnswer g diagonals rights ups sources = answerBy (formCheck g diagonals righ
 
 pub record FormTold (g : Gauge) (diagonals rights ups : List ℕ) (sources : List ℤ) (place number : ℕ) (diagonals′ rights′ ups′ : List ℕ) (sources′ : List ℤ) (place′ : ℕ)
     : Type 0 where
-  pub told : Told (foundBy (formAnswer g diagonals rights ups sources)) place number place′
+  pub told : Told (refusalIn (formAnswer g diagonals rights ups sources)) place number place′
   pub forms : Forms g diagonals rights ups sources (formAnswer g diagonals rights ups sources) diagonals′ rights′ ups′ sources′

@@ -1,5 +1,5 @@
 // The calls on film files and on a film's own numbers.
-ghost use Rattle.model.specs.Result.{foundBy};
+ghost use Rattle.model.specs.Result.{refusalIn};
 ghost use Rattle.model.specs.FileCalls.{gaugeOf, saveCall};
 ghost use Rattle.model.specs.ReportCall.{reportCall};
 ghost use Rattle.told.specs.Refused.{Told};
@@ -46,7 +46,7 @@ pub extern "C" fn film_write(
     out: &mut [u8],
     place: &mut usize,
 ) -> u32
-    ensures { λ r. ⌜ Leaves (saveCall (gaugeOf (lentHead (now (head .entry))) (now (weights .entry)) (now (thicknesses .entry)) wedge) (now (out .entry))) (λ a. Told (foundBy a) (now (place .entry)) r (now (place .exit))) (now (out .exit)) ⌝ }
+    ensures { λ r. ⌜ Leaves (saveCall (gaugeOf (lentHead (now (head .entry))) (now (weights .entry)) (now (thicknesses .entry)) wedge) (now (out .entry))) (λ a. Told (refusalIn a) (now (place .entry)) r (now (place .exit))) (now (out .exit)) ⌝ }
 {
     let head = crate::head_of(head);
     let answer = file::write(head, weights, thicknesses, wedge, out);

@@ -1,5 +1,5 @@
 // The calls on a film as coefficients.
-ghost use Rattle.model.specs.Result.{foundBy};
+ghost use Rattle.model.specs.Result.{refusalIn};
 ghost use Rattle.model.specs.Film.{filmOf};
 ghost use Rattle.model.specs.Relaxation.{relaxCall, slackCall};
 ghost use Rattle.model.specs.Margin.{marginCall};
@@ -152,7 +152,7 @@ pub extern "C" fn film_estimate(
     proposal: &mut [u32],
     place: &mut usize,
 ) -> u32
-    ensures { λ r. ⌜ Leaves (estimateCall (filmOf (lentHead (now (head .entry))) (now (weights .entry)) (now (diagonals .entry)) (now (rights .entry)) (now (ups .entry)) (now (sources .entry))) line (now (field .entry)) (now (proposal .entry))) (λ a. Told (foundBy a) (now (place .entry)) r (now (place .exit))) (now (proposal .exit)) ⌝ }
+    ensures { λ r. ⌜ Leaves (estimateCall (filmOf (lentHead (now (head .entry))) (now (weights .entry)) (now (diagonals .entry)) (now (rights .entry)) (now (ups .entry)) (now (sources .entry))) line (now (field .entry)) (now (proposal .entry))) (λ a. Told (refusalIn a) (now (place .entry)) r (now (place .exit))) (now (proposal .exit)) ⌝ }
 {
     let head = crate::head_of(head);
     let answer = line::estimate(

@@ -9,7 +9,7 @@ use Rattle.model.specs.Refusals.{pass}
 use Rattle.model.specs.Film.{Film, sizeOf, rule, beside, across, neighbours}
 use Rattle.model.specs.Checks.{orderCheck}
 use Rattle.model.specs.Accepted.{Accepted}
-use Rattle.model.specs.Result.{Answer, answered, refused, passed, callBy, Gives}
+use Rattle.model.specs.Result.{Answer, answered, refused, unrefused, callBy, Gives}
 use Rattle.model.specs.Run.{RunAnswer, done, stopped, over, runCall}
 use Rattle.model.specs.Report.{cellLine, cellLines, answerText, reportBudget, reportRun}
 use Rattle.model.specs.declared.Counts.{Counts}
@@ -47,13 +47,13 @@ module _ (f : Film) (A : Accepted f) where
   zeros = replicate (sizeOf f) 0
 
   -- no test refuses it
-  run-passes : runCall f reportBudget 0 false zeros ≡ passed (reportRun f)
+  run-passes : runCall f reportBudget 0 false zeros ≡ unrefused (reportRun f)
   run-passes =
       ap (λ x. callBy x (reportRun f) zeros) (field-accepted f zeros true (orderCheck 0) pass A (zeros-bounded (rule f)))
 
   pub run-reports : {field p : List ℕ} {a : Answer RunAnswer} → field ≡ zeros → Gives (runCall f reportBudget 0 false field) a p → Reports f a p
   run-reports {field} {p} {a} e G =
-      let call : runCall f reportBudget 0 false field ≡ passed (reportRun f) = ap (λ (q : List ℕ). runCall f reportBudget 0 false q) e ∙ run-passes in
+      let call : runCall f reportBudget 0 false field ≡ unrefused (reportRun f) = ap (λ (q : List ℕ). runCall f reportBudget 0 false q) e ∙ run-passes in
       let answer : a ≡ answered (reportRun f .answer) = G .answer-is ∙ ap (λ r. r .answer) call in
       let lent : p ≡ reportRun f .lent = G .lent-is ∙ ap (λ r. r .lent) call in
       let B = zeros-bounded (rule f) in

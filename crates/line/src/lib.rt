@@ -4,7 +4,7 @@
 // Proved: the whole answer, and the lent field or slice, are those of crate `model` (marginCall, proposeCall, estimateCall).
 ghost use mathlib.Core.Path.{_≡_};
 ghost use Rattle.model.specs.Film.{filmOf};
-ghost use Rattle.model.specs.Result.{answered as answeredBy, Gives};
+ghost use Rattle.model.specs.Result.{answered, Gives};
 ghost use Rattle.model.specs.Proposal.{proposalAnswerOf, proposeCall};
 ghost use Rattle.model.specs.Margin.{marginAnswerOf, marginCall};
 ghost use Rattle.model.specs.Estimate.{estimateAnswerOf, estimateCall};
@@ -17,8 +17,8 @@ use model::Tested;
 use proposal::Decision;
 
 // What was decided, as the call answers it.
-fn answered(decision: Decision) -> Proposed
-    ensures { λ r. ⌜ proposalAnswerOf r ≡ answeredBy (decisionOf decision) ⌝ }
+fn as_answer(decision: Decision) -> Proposed
+    ensures { λ r. ⌜ proposalAnswerOf r ≡ answered (decisionOf decision) ⌝ }
 {
     match decision {
         Decision::Accepted(cells) => Proposed::Accepted(cells),
@@ -56,7 +56,7 @@ pub fn propose(
     ) {
         Tested::Fine => {
             let start = proposal::line_start(head.columns, line);
-            answered(proposal::propose(
+            as_answer(proposal::propose(
                 head,
                 diagonals,
                 rights,

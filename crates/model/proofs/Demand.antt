@@ -16,7 +16,7 @@ use Rattle.model.specs.Refusals.{Check, pass, fail, _orElse_, failIf}
 use Rattle.model.specs.Film.{Film, sizeOf, systemOf, rule, Feasible, Least}
 use Rattle.model.specs.Checks.{orderCheck, lineCheck, filmCheck}
 use Rattle.model.specs.Accepted.{Accepted}
-use Rattle.model.specs.Result.{Answer, answered, refused, answerBy, foundBy}
+use Rattle.model.specs.Result.{Answer, answered, refused, answerBy, refusalIn}
 use Rattle.model.specs.Proposal.{ProposalAnswer, propose, lineStart}
 use Rattle.model.specs.Run.{RunAnswer, run, runCheck}
 use Rattle.model.specs.Gauge.{Gauge}
@@ -55,11 +55,11 @@ all-kept f (c ∷ cs) p =
 
 -- ---- refused steps
 
-found-by : {A : Type 0} (tests : Check) (a : A) → foundBy (answerBy tests a) ≡ tests
+found-by : {A : Type 0} (tests : Check) (a : A) → refusalIn (answerBy tests a) ≡ tests
 found-by pass a = refl
 found-by (fail number place) a = refl
 
-refused-is : {A : Type 0} (x : Answer A) {number place : ℕ} → foundBy x ≡ fail number place → x ≡ refused number place
+refused-is : {A : Type 0} (x : Answer A) {number place : ℕ} → refusalIn x ≡ fail number place → x ≡ refused number place
 refused-is (answered a) e = let z : _≡_ {A = ℕ} 0 1 = cc in absurd (omega arith)
 refused-is (refused n q) e = cc
 
@@ -74,13 +74,13 @@ module _ (f : Film) (A : Accepted f) where
   step-refusal : (entry : List ℕ) (s : Step) → Kept f entry s → theory.Bounded (rule f) entry → refusalOf s ≡ callCheck f (callOf s)
   step-refusal p (ran budget order on answer exit) k B =
       let passes : runCheck f p order ≡ orderCheck order = field-accepted f p true (orderCheck order) pass A B ∙ or-pass (orderCheck order) in
-      ap foundBy (k .answer-is) ∙ found-by _ (run f budget order on p .answer) ∙ passes
+      ap refusalIn (k .answer-is) ∙ found-by _ (run f budget order on p .answer) ∙ passes
     where
       or-pass : (x : Check) → (x orElse pass) ≡ x
       or-pass pass = refl
       or-pass (fail number place) = refl
   step-refusal p (proposed line proposal answer exit) k B =
-      ap foundBy (k .answer-is) ∙ found-by _ (propose f (lineStart f line) proposal p .answer)
+      ap refusalIn (k .answer-is) ∙ found-by _ (propose f (lineStart f line) proposal p .answer)
       ∙ field-accepted f p (eqb (length proposal) (f .columns)) pass (lineCheck f line) A B
 
   -- ---- what holds of a history

@@ -85,7 +85,7 @@ module _ (bytes : List ℕ) (B : Bytes bytes) where
       let weights′ : List ℕ = laidOver (gaugeIn bytes .weights) weights in
       let thicknesses′ : List ℕ = laidOver (gaugeIn bytes .thicknesses) thicknesses in
       let loads : Loads bytes weights thicknesses (answered (loadAnswer g)) weights′ thicknesses′ =
-          record { answer-is = rw opened (ap (λ (h : Gauge). answered (loadAnswer h)) (read .1)); weights-are = rw opened; thicknesses-are = rw opened } in
+      record { answer-is = rw opened (ap (λ (h : Gauge). answered (loadAnswer h)) (read .1)); weights-are = rw opened; thicknesses-are = rw opened } in
       let laid : Gauge = used (headOf g) (g .wedge) weights′ thicknesses′ in
       let reads : readFilm bytes ≡ answered laid = read-film bytes weights thicknesses weights′ thicknesses′ (headOf g) (g .wedge) B loads in
       let same : answered g ≡ answered laid = sym e ∙ reads in

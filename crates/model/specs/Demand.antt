@@ -15,7 +15,7 @@ use Rattle.monotone.specs.History.{Verdict, Each, exhaustions}
 use Rattle.model.specs.Refusals.{Check, fail, _orElse_, failIf}
 use Rattle.model.specs.Film.{Film, sizeOf, Feasible, Least}
 use Rattle.model.specs.Checks.{orderCheck, lineCheck}
-use Rattle.model.specs.Result.{Answer, answered, refused, foundBy, Gives}
+use Rattle.model.specs.Result.{Answer, answered, refused, refusalIn, Gives}
 use Rattle.model.specs.Proposal.{ProposalAnswer, proposeCall}
 use Rattle.model.specs.Run.{RunAnswer, done, stopped, over, runCall}
 
@@ -43,8 +43,8 @@ exitOf (proposed line proposal answer exit) = exit
 
 -- whether the call was refused, with which number and place
 abbrev pub refusalOf : Step → Check
-refusalOf (ran budget order on answer exit) = foundBy answer
-refusalOf (proposed line proposal answer exit) = foundBy answer
+refusalOf (ran budget order on answer exit) = refusalIn answer
+refusalOf (proposed line proposal answer exit) = refusalIn answer
 
 -- what matters of a step on a film of n cells: a run's Done, Over, and Stopped though its budget covers every cell
 abbrev pub verdictOf : ℕ → Step → Verdict

@@ -15,14 +15,14 @@ pub data Answer (A : Type 0) : Type 0 where
 abbrev pub refusal : {A : Type 0} → Refusal → Answer A
 refusal r = refused (numberOf (r .fault)) (r .place)
 
--- a call's answer by what its tests find, and what its tests have found by its answer
+-- a call's answer by what its tests find, and whether it was refused, by its answer
 abbrev pub answerBy : {A : Type 0} → Check → A → Answer A
 answerBy pass a = answered a
 answerBy (fail number place) a = refused number place
 
-abbrev pub foundBy : {A : Type 0} → Answer A → Check
-foundBy (answered a) = pass
-foundBy (refused number place) = fail number place
+abbrev pub refusalIn : {A : Type 0} → Answer A → Check
+refusalIn (answered a) = pass
+refusalIn (refused number place) = fail number place
 
 -- what a lent slice holds after a call: `new` if its tests passed, and what it held if they did not
 abbrev pub kept : {A : Type 0} → Check → List A → List A → List A
@@ -42,8 +42,8 @@ written new = record { answer = tt; lent = new }
 abbrev pub callBy : {A : Type 0} → Check → Result A → List ℕ → Result (Answer A)
 callBy tests r lent = record { answer = answerBy tests (r .answer); lent = kept tests (r .lent) lent }
 
-abbrev pub passed : {A : Type 0} → Result A → Result (Answer A)
-passed r = record { answer = answered (r .answer); lent = r .lent }
+abbrev pub unrefused : {A : Type 0} → Result A → Result (Answer A)
+unrefused r = record { answer = answered (r .answer); lent = r .lent }
 
 -- a call gave just that
 pub record Gives {A : Type 0} (result : Result A) (answer : A) (exit : List ℕ) : Type 0 where

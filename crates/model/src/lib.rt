@@ -1,13 +1,11 @@
-// What document 01 says, as definitions: the one place that a reader must believe.
+// What document 01 says, as definitions: what a reader must believe, beside what they build on (specs/ of crates `monotone` and `fault`).
 //
-// This file declares the values that public calls take and answer with. specs/ gives their meaning, a module for each
-// section of the document: Bytes, Fields and File (film files), Refusals, Gauge and Coefficients (a film from thicknesses and wedge),
-// Reynolds (the difference form that they stand for), Film (slack, dominance), Checks, Relaxation, Proposal, Margin, Estimate,
-// Run, FileCalls, Report, ReportCall, Demand (demand 3), and FilmF (the document's worked example). Every definition computes.
+// This file declares the values that public calls take and answer with. specs/ gives their meaning, section by section of the document;
+// specs/Lib.antt lists the modules. Every definition computes.
 //
 // proofs/ ties them to the theory of the crate `monotone`: slack and required pressure, the accept test, the orderings, that
 // a film which passes its tests makes every call a good one, and that the formed coefficients are Reynolds' difference
-// form; and it has film F's edges as one theorem.
+// form; that reader and writer undo each other; demand 3, of films and of the calls themselves; and film F's edges as one theorem.
 use fault::Fault;
 
 // A film's shape and ceiling.

@@ -11,7 +11,7 @@ use Rattle.monotone.proofs.Sweep.{sweep-counts}
 use Rattle.model.specs.Lists.{tabulate}
 use Rattle.model.specs.Film.{Film, sizeOf, rule, beside, across, neighbours}
 use Rattle.model.specs.Accepted.{Limited}
-use Rattle.model.specs.Result.{Answer, answered, passed, Gives}
+use Rattle.model.specs.Result.{Answer, answered, unrefused, Gives}
 use Rattle.model.specs.Run.{RunAnswer, countsOf, endOf, ended, ordering}
 use Rattle.model.specs.declared.Counts.{Counts}
 use Rattle.model.proofs.Bare.{bare}
@@ -35,7 +35,7 @@ module _ (f : Film) (l : Limited f) where
     pub run-gives : (budget accepted : ℕ) (s : Swept) (a : Answer RunAnswer) (exit : List ℕ)
         → Ends (ruleBy (length table) (f .ceiling) (f .columns) (f .diagonals) (f .rights) (f .ups) (f .sources)) table budget p s exit
         → a ≡ answered (endOf (answerOf s) (countsIn (counterOf s) accepted))
-        → Gives (passed (ended (theory.sweep (rule (bare f)) (ordering f order) budget (theory.begin p)) accepted)) a exit
+        → Gives (unrefused (ended (theory.sweep (rule (bare f)) (ordering f order) budget (theory.begin p)) accepted)) a exit
     unfolding neighbours beside across
     run-gives budget accepted s a exit E x =
         let F = film-sweep l order table e budget p some in

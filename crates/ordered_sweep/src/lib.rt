@@ -9,7 +9,7 @@ ghost use lib.ListN.{length};
 ghost use Rattle.monotone.specs.Sweep.{begin, sweep as sweepOf};
 ghost use Rattle.model.specs.Film.{filmOf, rule};
 ghost use Rattle.model.specs.Accepted.{Limited};
-ghost use Rattle.model.specs.Result.{answered as answeredBy, passed, Gives};
+ghost use Rattle.model.specs.Result.{answered, unrefused, Gives};
 ghost use Rattle.model.specs.Run.{runAnswerOf, endOf, ended, ordering};
 ghost use Rattle.sweep.specs.Sweep.{answerOf, counterOf};
 ghost use Rattle.ordered_sweep.specs.Counts.{countsIn};
@@ -31,9 +31,9 @@ fn counts(counter: Counter, accepted: u32) -> Counts
 }
 
 // How a sweep ended, as the run answers it.
-fn answered(swept: Swept, accepted: u32) -> Ran
+fn as_answer(swept: Swept, accepted: u32) -> Ran
     requires { ⌜ (counterOf swept .visits < 2 ^ 32) × (counterOf swept .raises < 2 ^ 32) ⌝ }
-    ensures { λ r. ⌜ runAnswerOf r ≡ answeredBy (endOf (answerOf swept) (countsIn (counterOf swept) accepted)) ⌝ }
+    ensures { λ r. ⌜ runAnswerOf r ≡ answered (endOf (answerOf swept) (countsIn (counterOf swept) accepted)) ⌝ }
 {
     match swept {
         Swept::Done(c) => Ran::Done(counts(c, accepted)),
@@ -56,7 +56,7 @@ pub fn relaxations(
 ) -> Ran
     requires { ⌜ ((w : List ℕ) × Limited (filmOf head w (now diagonals) (now rights) (now ups) (now sources))) ⌝ }
     requires { ⌜ length (now field) ≡ head .rows * head .columns ⌝ }
-    ensures { λ r. ⌜ Gives (passed (ended (sweepOf (rule (filmOf head [] (now (diagonals .entry)) (now (rights .entry)) (now (ups .entry)) (now (sources .entry)))) (ordering (filmOf head [] (now (diagonals .entry)) (now (rights .entry)) (now (ups .entry)) (now (sources .entry))) order) budget (begin (now (field .entry)))) accepted)) (runAnswerOf r) (now (field .exit)) ⌝ }
+    ensures { λ r. ⌜ Gives (unrefused (ended (sweepOf (rule (filmOf head [] (now (diagonals .entry)) (now (rights .entry)) (now (ups .entry)) (now (sources .entry)))) (ordering (filmOf head [] (now (diagonals .entry)) (now (rights .entry)) (now (ups .entry)) (now (sources .entry))) order) budget (begin (now (field .entry)))) accepted)) (runAnswerOf r) (now (field .exit)) ⌝ }
 {
     let n = field.len();
     let columns = head.columns as usize;
@@ -73,5 +73,5 @@ pub fn relaxations(
         field,
         budget as u64,
     );
-    answered(swept, accepted)
+    as_answer(swept, accepted)
 }

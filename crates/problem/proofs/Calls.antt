@@ -14,7 +14,7 @@ use Rattle.model.specs.Film.{Film, sizeOf, beside, across, neighbours, slack}
 use Rattle.model.specs.Checks.{fieldCheck, cellCheck}
 use Rattle.model.specs.Accepted.{Limited}
 use Rattle.model.proofs.Checks.{failIf-pass, field-passes}
-use Rattle.model.specs.Result.{Answer, answered, refused, Result, passed, Gives}
+use Rattle.model.specs.Result.{Answer, answered, refused, Result, unrefused, Gives}
 use Rattle.model.specs.Relaxation.{requiredFor, required, RelaxAnswer, quiet, raised, over, relaxedTo, relax, pointCheck, relaxCall, slackCall}
 use Rattle.model.proofs.Bare.{bare}
 use Rattle.model.specs.declared.Tested.{Tested}
@@ -52,19 +52,19 @@ module _ {p exit : List ℕ} {i ceiling target : ℕ} {v : Found} (required : �
   found = S .kind ∙ ap (λ (r : ℕ). theory.relax ceiling r (getD p i 0)) t ∙ relax-target ceiling required (getD p i 0)
 
   taken : (k : theory.Relaxation) → kindOf v ≡ k → (a : RelaxAnswer) → a ≡ relaxedTo k required p i .answer
-      → fieldAfter k p i target ≡ relaxedTo k required p i .lent → Gives (passed (relaxedTo (theory.relax ceiling required (getD p i 0)) required p i)) (answered a) exit
+      → fieldAfter k p i target ≡ relaxedTo k required p i .lent → Gives (unrefused (relaxedTo (theory.relax ceiling required (getD p i 0)) required p i)) (answered a) exit
   taken k e a f g =
       let h : theory.relax ceiling required (getD p i 0) ≡ k = sym found ∙ e in
       let w : theory.relax ceiling target (getD p i 0) ≡ k = sym (S .kind) ∙ e in
       record { answer-is = ap answered (rw h f); lent-is = rw h (rw w at (S .field) ∙ g) }
 
-  pub gives-quiet : kindOf v ≡ theory.quiet → Gives (passed (relaxedTo (theory.relax ceiling required (getD p i 0)) required p i)) (answered quiet) exit
+  pub gives-quiet : kindOf v ≡ theory.quiet → Gives (unrefused (relaxedTo (theory.relax ceiling required (getD p i 0)) required p i)) (answered quiet) exit
   gives-quiet e = taken theory.quiet e quiet refl refl
 
-  pub gives-over : kindOf v ≡ theory.exceed → Gives (passed (relaxedTo (theory.relax ceiling required (getD p i 0)) required p i)) (answered (over i)) exit
+  pub gives-over : kindOf v ≡ theory.exceed → Gives (unrefused (relaxedTo (theory.relax ceiling required (getD p i 0)) required p i)) (answered (over i)) exit
   gives-over e = taken theory.exceed e (over i) refl refl
 
-  pub gives-raised : kindOf v ≡ theory.raise → Gives (passed (relaxedTo (theory.relax ceiling required (getD p i 0)) required p i)) (answered (raised target)) exit
+  pub gives-raised : kindOf v ≡ theory.raise → Gives (unrefused (relaxedTo (theory.relax ceiling required (getD p i 0)) required p i)) (answered (raised target)) exit
   gives-raised e =
       let r = raise-above ceiling required (getD p i 0) (sym found ∙ e) in
       let z : target ≡ required = omega (arith, r) in
@@ -77,7 +77,7 @@ module _ (f : Film) (p : List ℕ) (i : ℕ) where
   unfolding neighbours beside across
   cell-required l b c e = ap (λ (x : Cell). requiredFor (x .diagonal) (x .pull) (x .source)) (e ∙ cell-is l p i b)
 
-  pub relax-passed : {a : Answer RelaxAnswer} {exit : List ℕ} → pointCheck f p i ≡ pass → Gives (passed (relax (bare f) p i)) a exit → Gives (relaxCall f p i) a exit
+  pub relax-passed : {a : Answer RelaxAnswer} {exit : List ℕ} → pointCheck f p i ≡ pass → Gives (unrefused (relax (bare f) p i)) a exit → Gives (relaxCall f p i) a exit
   unfolding neighbours beside across
   relax-passed e G = rw e G
 

@@ -8,7 +8,7 @@ ghost use Prim.Native.Nat.{ℕ, _*_, _<_};
 ghost use lib.ListN.{length};
 ghost use Rattle.model.specs.Film.{filmOf};
 ghost use Rattle.model.specs.Accepted.{Limited};
-ghost use Rattle.model.specs.Result.{passed, Gives};
+ghost use Rattle.model.specs.Result.{unrefused, Gives};
 ghost use Rattle.model.specs.Relaxation.{relaxAnswerOf, relax as relaxOf, relaxCall, slackAnswerOf, slackCall};
 use model::Head;
 use model::Relaxed;
@@ -28,7 +28,7 @@ fn relax_cell(
 ) -> Relaxed
     requires { ⌜ ((w : List ℕ) × Limited (filmOf head w (now diagonals) (now rights) (now ups) (now sources))) ⌝ }
     requires { ⌜ (length (now field) ≡ head .rows * head .columns) × (at < head .rows * head .columns) ⌝ }
-    ensures { λ r. ⌜ Gives (passed (relaxOf (filmOf head [] (now (diagonals .entry)) (now (rights .entry)) (now (ups .entry)) (now (sources .entry))) (now (field .entry)) at)) (relaxAnswerOf r) (now (field .exit)) ⌝ }
+    ensures { λ r. ⌜ Gives (unrefused (relaxOf (filmOf head [] (now (diagonals .entry)) (now (rights .entry)) (now (ups .entry)) (now (sources .entry))) (now (field .entry)) at)) (relaxAnswerOf r) (now (field .exit)) ⌝ }
 {
     let pressure = field[at];
     let columns = head.columns as usize;

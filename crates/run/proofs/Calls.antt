@@ -7,7 +7,7 @@ use Rattle.monotone.specs.Sweep as theory
 use Rattle.model.specs.Refusals.{pass, fail, checkOf}
 use Rattle.model.specs.Film.{Film, rule, beside, across, neighbours}
 use Rattle.model.specs.Checks.{fieldCheck, orderCheck}
-use Rattle.model.specs.Result.{Answer, refused, passed, Gives}
+use Rattle.model.specs.Result.{Answer, refused, unrefused, Gives}
 use Rattle.model.specs.Run.{readied, RunAnswer, ended, ordering, run, runCheck, runCall}
 use Rattle.model.proofs.Checks.{FieldPassed, field-passes}
 use Rattle.model.proofs.Bare.{bare}
@@ -26,7 +26,7 @@ module _ (f : Film) where
   -- the run whole: its tests, the proposals and the relaxations
   module _ (p : List ℕ) (budget order : ℕ) (on : Bool) where
     pub run-passed : (accepted : ℕ) (q : List ℕ) {a : Answer RunAnswer} {exit : List ℕ} → runCheck f p order ≡ pass → Readies (readied f budget on p) accepted q
-        → Gives (passed (ended (theory.sweep (rule (bare f)) (ordering f order) budget (theory.begin q)) accepted)) a exit
+        → Gives (unrefused (ended (theory.sweep (rule (bare f)) (ordering f order) budget (theory.begin q)) accepted)) a exit
         → Gives (runCall f budget order on p) a exit
     unfolding run neighbours beside across
     run-passed accepted q e R G = rw e (rw (R .accepted-is, R .field-is) at G)

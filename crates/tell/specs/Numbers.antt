@@ -4,7 +4,7 @@ use mathlib.Core.Path.{_≡_}
 use mathlib.Core.List.{List, [], _∷_}
 use Prim.Native.Nat.{ℕ}
 use lib.IntN.{ℤ}
-use Rattle.model.specs.Result.{Answer, answered, refused, foundBy}
+use Rattle.model.specs.Result.{Answer, answered, refused, refusalIn}
 use Rattle.model.specs.Relaxation.{RelaxAnswer, quiet, raised, over}
 use Rattle.model.specs.Proposal.{ProposalAnswer, accepted, rejected}
 use Rattle.model.specs.Run.{RunAnswer, done, stopped}
@@ -13,11 +13,11 @@ use Rattle.model.specs.declared.Counts.{Counts}
 use Rattle.told.specs.Refused.{Told, valueIn}
 
 pub record SlackTold (answer : Answer ℤ) (slack : ℤ) (place number : ℕ) (slack′ : ℤ) (place′ : ℕ) : Type 0 where
-  pub told : Told (foundBy answer) place number place′
+  pub told : Told (refusalIn answer) place number place′
   pub slack-is : slack′ ≡ valueIn answer slack
 
 pub record MarginTold (answer : Answer ℕ) (margin place number margin′ place′ : ℕ) : Type 0 where
-  pub told : Told (foundBy answer) place number place′
+  pub told : Told (refusalIn answer) place number place′
   pub margin-is : margin′ ≡ valueIn answer margin
 
 -- 0 quiet, 1 raised, 2 over; and the pressure that the cell was raised to. The cell of Over is the call's own.
@@ -28,7 +28,7 @@ relaxNumbers (answered (over cell)) old = 2 ∷ 0 ∷ []
 relaxNumbers (refused number place) old = old
 
 pub record RelaxTold (answer : Answer RelaxAnswer) (result : List ℕ) (place number : ℕ) (result′ : List ℕ) (place′ : ℕ) : Type 0 where
-  pub told : Told (foundBy answer) place number place′
+  pub told : Told (refusalIn answer) place number place′
   pub result-is : result′ ≡ relaxNumbers answer result
 
 -- 1 accepted, 0 rejected; and the number of cells raised
@@ -38,7 +38,7 @@ proposeNumbers (answered rejected) old = 0 ∷ 0 ∷ []
 proposeNumbers (refused number place) old = old
 
 pub record ProposeTold (answer : Answer ProposalAnswer) (result : List ℕ) (place number : ℕ) (result′ : List ℕ) (place′ : ℕ) : Type 0 where
-  pub told : Told (foundBy answer) place number place′
+  pub told : Told (refusalIn answer) place number place′
   pub result-is : result′ ≡ proposeNumbers answer result
 
 abbrev pub counted : ℕ → Counts → List ℕ
@@ -58,6 +58,6 @@ overCell (answered (runs.over cell c)) old = cell
 overCell (refused number place) old = old
 
 pub record RunTold (answer : Answer RunAnswer) (result : List ℕ) (cell place number : ℕ) (result′ : List ℕ) (cell′ place′ : ℕ) : Type 0 where
-  pub told : Told (foundBy answer) place number place′
+  pub told : Told (refusalIn answer) place number place′
   pub result-is : result′ ≡ runNumbers answer result
   pub cell-is : cell′ ≡ overCell answer cell

@@ -7,7 +7,7 @@
 //
 // Proved: the number returned is 0 or the refusal's, and each lent number and array holds what specs/ says of the answer. A refusal
 // writes its place and nothing else; an answer leaves the place as it was.
-ghost use Rattle.model.specs.Result.{foundBy};
+ghost use Rattle.model.specs.Result.{refusalIn};
 ghost use Rattle.model.specs.Relaxation.{relaxAnswerOf, slackAnswerOf};
 ghost use Rattle.model.specs.Margin.{marginAnswerOf};
 ghost use Rattle.model.specs.Proposal.{proposalAnswerOf};
@@ -110,7 +110,7 @@ pub fn propose(answer: Proposed, result: &mut [u32; 2], place: &mut usize) -> u3
 
 // An estimate, which is in its own slice.
 pub fn estimate(answer: Estimated, place: &mut usize) -> u32
-    ensures { λ r. ⌜ Told (foundBy (estimateAnswerOf answer)) (now (place .entry)) r (now (place .exit)) ⌝ }
+    ensures { λ r. ⌜ Told (refusalIn (estimateAnswerOf answer)) (now (place .entry)) r (now (place .exit)) ⌝ }
 {
     match answer {
         Estimated::Written => 0,

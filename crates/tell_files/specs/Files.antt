@@ -4,12 +4,12 @@ use mathlib.Core.Path.{_≡_}
 use mathlib.Core.List.{List, [], _∷_}
 use Prim.Native.Nat.{ℕ}
 use lib.IntN.{ℤ}
-use Rattle.model.specs.Result.{Answer, answered, refused, foundBy}
+use Rattle.model.specs.Result.{Answer, answered, refused, refusalIn}
 use Rattle.model.specs.FileCalls.{LoadAnswer, film}
 use Rattle.told.specs.Refused.{Told, valueIn}
 
 pub record ReportTold (answer : Answer ℕ) (length place number length′ place′ : ℕ) : Type 0 where
-  pub told : Told (foundBy answer) place number place′
+  pub told : Told (refusalIn answer) place number place′
   pub length-is : length′ ≡ valueIn answer length
 
 -- rows, columns, ceiling
@@ -22,6 +22,6 @@ wedgeNumber (answered (film h wedge)) old = wedge
 wedgeNumber (refused number place) old = old
 
 pub record LoadTold (answer : Answer LoadAnswer) (head : List ℕ) (wedge : ℤ) (place number : ℕ) (head′ : List ℕ) (wedge′ : ℤ) (place′ : ℕ) : Type 0 where
-  pub told : Told (foundBy answer) place number place′
+  pub told : Told (refusalIn answer) place number place′
   pub head-is : head′ ≡ headNumbers answer head
   pub wedge-is : wedge′ ≡ wedgeNumber answer wedge

@@ -6,7 +6,7 @@
 //
 // Proved: the number returned is 0 or the refusal's, and each lent number and array holds what specs/ says of the answer. A refusal
 // writes its place and nothing else; an answer leaves the place as it was.
-ghost use Rattle.model.specs.Result.{foundBy};
+ghost use Rattle.model.specs.Result.{refusalIn};
 ghost use Rattle.model.specs.FileCalls.{loadAnswerOf, saveAnswerOf, formAnswerOf};
 ghost use Rattle.model.specs.ReportCall.{reportAnswerOf};
 ghost use Rattle.told.specs.Refused.{Told};
@@ -45,7 +45,7 @@ pub fn read(answer: Loaded, head: &mut [u32; 3], wedge: &mut i32, place: &mut us
 
 // A file that was written, which is in its own slice.
 pub fn write(answer: Saved, place: &mut usize) -> u32
-    ensures { λ r. ⌜ Told (foundBy (saveAnswerOf answer)) (now (place .entry)) r (now (place .exit)) ⌝ }
+    ensures { λ r. ⌜ Told (refusalIn (saveAnswerOf answer)) (now (place .entry)) r (now (place .exit)) ⌝ }
 {
     match answer {
         Saved::Written => 0,
@@ -55,7 +55,7 @@ pub fn write(answer: Saved, place: &mut usize) -> u32
 
 // Formed coefficients, which are in their own slices.
 pub fn form(answer: Formed, place: &mut usize) -> u32
-    ensures { λ r. ⌜ Told (foundBy (formAnswerOf answer)) (now (place .entry)) r (now (place .exit)) ⌝ }
+    ensures { λ r. ⌜ Told (refusalIn (formAnswerOf answer)) (now (place .entry)) r (now (place .exit)) ⌝ }
 {
     match answer {
         Formed::Written => 0,

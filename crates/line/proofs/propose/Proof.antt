@@ -59,8 +59,8 @@ propose-requires c κs =
     let R = ready e in
     ((now (start (tests e) .args .weights), R .film .limited), (R .bounded .len, omega (arith, l .line-start .ensures, R .inside), R .len))
 
-answered-requires : tie.Need-answered-requires
-answered-requires c κs = search needs
+as-answer-requires : tie.Need-as-answer-requires
+as-answer-requires c κs = search needs
 
 enum-known-r : tie.Need-enum-known-r
 enum-known-r c = search needs
@@ -74,7 +74,7 @@ returns c =
     let l = x .before .before in
     let e = l .before in
     let a = start (tests e) .args in
-    rw (c .answered .ensures)
+    rw (c .as-answer .ensures)
     (propose-passed (film (tests e)) (now (a .field)) (now (a .proposal)) (a .line) (passed e) (rw (l .line-start .ensures) at (x .propose .ensures)))
 
 same-length-2 : tie.Need-same-length-2
@@ -96,7 +96,7 @@ propose-spec =
     enum-told
     line-start-requires
     propose-requires
-    answered-requires
+    as-answer-requires
     enum-known-r
     same-length
     returns

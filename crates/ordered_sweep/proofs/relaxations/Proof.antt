@@ -66,8 +66,8 @@ sweep-requires c κs =
       ),
     )
 
-answered-requires : tie.Need-answered-requires
-answered-requires c κs =
+as-answer-requires : tie.Need-as-answer-requires
+as-answer-requires c κs =
     let x = c .before .before in
     counts-low (x .sweep .ensures) (start (x .before .before .before .before) .fits .budget .fits)
 
@@ -81,7 +81,7 @@ returns c =
     let s = start f in
     let a = s .args in
     run-gives (film s) (s .pre .0 .1) (a .order) _ (now (a .field)) (listed f) (s .pre .1) (a .budget) (a .accepted) _ _ _
-    (x .sweep .ensures) (c .answered .ensures)
+    (x .sweep .ensures) (c .as-answer .ensures)
 
 pub relaxations-spec : {M : Type 1} → statement M
 relaxations-spec =
@@ -93,6 +93,6 @@ relaxations-spec =
     array-share-prefix-table
     slice-aggregate-sweep
     sweep-requires
-    answered-requires
+    as-answer-requires
     same-length
     returns)

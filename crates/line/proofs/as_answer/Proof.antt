@@ -1,10 +1,10 @@
--- `line::answered` meets its contract: the two decisions are the two answers.
+-- `line::as_answer` meets its contract: the two decisions are the two answers.
 use mathlib.Core.Path.{ap, sym}
 use borrow.Author.Needs.{needs}
 use Rattle.model.specs.Result.{answered}
 use Rattle.proposal.specs.Decision.{decisionOf}
-use Rattle.line.proofs.answered.Statement.{statement}
-use Rattle.line.proofs.answered.Tie as tie
+use Rattle.line.proofs.as_answer.Statement.{statement}
+use Rattle.line.proofs.as_answer.Tie as tie
 
 enum-known-decision : tie.Need-enum-known-decision
 enum-known-decision c = search needs
@@ -18,5 +18,5 @@ returns c = ap (λ d. answered (decisionOf d)) (sym (c .before .decision .given 
 returns-2 : tie.Need-returns-2
 returns-2 c = ap (λ d. answered (decisionOf d)) (sym (c .enum-told .given .1))
 
-pub answered-spec : {M : Type 1} → statement M
-answered-spec = tie.close (tie.spec enum-known-decision enum-told returns returns-2)
+pub as-answer-spec : {M : Type 1} → statement M
+as-answer-spec = tie.close (tie.spec enum-known-decision enum-told returns returns-2)

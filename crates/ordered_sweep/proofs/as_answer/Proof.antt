@@ -1,11 +1,11 @@
--- `ordered_sweep::answered` meets its contract: each end of a sweep is the answer of that name, with its counts, which are asked to fit.
+-- `ordered_sweep::as_answer` meets its contract: each end of a sweep is the answer of that name, with its counts, which are asked to fit.
 use mathlib.Core.Path.{ap}
 use borrow.Author.Needs.{needs}
 use Rattle.model.specs.Result.{answered}
 use Rattle.model.specs.Run.{done, stopped, over}
 use Rattle.model.specs.declared.Counts.{Counts}
-use Rattle.ordered_sweep.proofs.answered.Statement.{statement}
-use Rattle.ordered_sweep.proofs.answered.Tie as tie
+use Rattle.ordered_sweep.proofs.as_answer.Statement.{statement}
+use Rattle.ordered_sweep.proofs.as_answer.Tie as tie
 
 enum-known-swept : tie.Need-enum-known-swept
 enum-known-swept c = search needs
@@ -34,8 +34,8 @@ returns-2 c = rw (c .before .before .swept2 .given .1) (ap (λ (k : Counts). ans
 returns-3 : tie.Need-returns-3
 returns-3 c = rw (c .before .before .swept3 .given .1) (ap (λ (k : Counts). answered (over (c .before .before .swept3 .given .0 .0) k)) (c .counts3 .ensures))
 
-pub answered-spec : {M : Type 1} → statement M
-answered-spec =
+pub as-answer-spec : {M : Type 1} → statement M
+as-answer-spec =
     tie.close
     (tie.spec
     enum-known-swept
