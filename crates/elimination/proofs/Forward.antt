@@ -1,4 +1,5 @@
--- Forwards along a line: what is kept of the elimination, step by step, and that a kept step is recalled.
+-- Forwards along a line: what is handed on and kept of the elimination, step by step, up to the line's end or a broken step, and that a kept
+-- step is recalled.
 use mathlib.Core.Path.{_≡_, refl, sym, ap, _∙_}
 use mathlib.Core.Bool.{Bool, true, false, cond, true≢false}
 use mathlib.Core.List.{List, []}
@@ -15,9 +16,7 @@ use Rattle.model.specs.declared.Head.{Head}
 use Rattle.model.specs.Film.{Film, filmOf, beside, across, neighbours}
 use Rattle.model.specs.Estimate.{floatOf, idle, pivot, broken, pivotIf, eliminate, isBroken, eliminated}
 use Rattle.model.specs.Estimate as paper
-use Rattle.elimination.specs.Line.{eliminationOf, keptOf, recall, stepAt, Kept, Eliminated}
-use Rattle.elimination.specs.declared.Elimination.{Elimination}
-use Rattle.elimination.specs.declared.Elimination.the-variants as steps
+use Rattle.elimination.specs.Line.{keptOf, recall, stepAt, Recorded, Eliminated}
 use Rattle.elimination.specs.declared.Preceding.{Preceding}
 
 -- a place that was written, and any other
@@ -29,86 +28,7 @@ module _ {A : Type 0} (l : List A) (n : ℕ) (v d : A) (g : ℕ → A) where
         | no a ↦ let z : k ≡ n = le-antisymm (omega arith) (omega arith) in rw z (getD-set-same l n v d b ∙ e)
       ]
 
-module _ (f : Film) (p : List ℕ) (start : ℕ) where
-  eliminated-next : (n : ℕ) → eliminated f p start (suc n) ≡ stepAt f p (start + n) (eliminated f p start n)
-  unfolding eliminated
-  eliminated-next n = refl
-
-  -- what is kept of the cell in column k
-  abbrev keep-at : ℕ → Preceding
-  keep-at k = keptOf (eliminated f p start (suc k))
-
-  -- The loop: n cells of the row are done.
-  pub record Going (columns : ℕ) (pivots₀ sides₀ : List Float) (n : ℕ) (pivots sides : List Float) (last : Elimination) : Type 0 where
-    pub low : n ≤ columns
-    pub last-is : eliminationOf last ≡ eliminated f p start n
-    pub kept : Kept f p start n pivots sides
-    pub pivots-len : length pivots ≡ length pivots₀
-    pub sides-len : length sides ≡ length sides₀
-
-  pub going-begin : (columns : ℕ) (pivots sides : List Float) → Going columns pivots sides 0 pivots sides steps.Idle
-  unfolding eliminated
-  going-begin columns pivots sides =
-      record {
-        low = omega arith;
-        last-is = refl;
-        kept = record { pivot = λ k h. absurd (omega arith); side = λ k h. absurd (omega arith) };
-        pivots-len = refl;
-        sides-len = refl;
-      }
-
-  pub going-next : {columns n : ℕ} {pivots₀ sides₀ pivots sides : List Float} {last next : Elimination} {keep : Preceding}
-      → Going columns pivots₀ sides₀ n pivots sides last → n < columns → columns ≤ length pivots₀ → columns ≤ length sides₀
-      → eliminationOf next ≡ stepAt f p (start + n) (eliminationOf last) → keep ≡ keptOf (eliminationOf next)
-      → Going columns pivots₀ sides₀ (n + 1) (set pivots n (keep .g)) (set sides n (keep .h)) next
-  going-next {n = n} {pivots = pivots} {sides = sides} {next = next} {keep = keep} G b l m s k =
-      let e : eliminationOf next ≡ eliminated f p start (suc n) = s ∙ ap (stepAt f p (start + n)) (G .last-is) ∙ sym (eliminated-next n) in
-      let z : keep ≡ keep-at n = k ∙ ap keptOf e in
-      record {
-        low = omega arith;
-        last-is = rw add-one e;
-        kept = record {
-          pivot = set-below pivots n _ nan (λ k. keep-at k .g) (omega (arith, G .pivots-len)) (G .kept .pivot) (ap (λ (x : Preceding). x .g) z);
-          side = set-below sides n _ nan (λ k. keep-at k .h) (omega (arith, G .sides-len)) (G .kept .side) (ap (λ (x : Preceding). x .h) z);
-        };
-        pivots-len = length-set pivots n (keep .g) ∙ G .pivots-len;
-        sides-len = length-set sides n (keep .h) ∙ G .sides-len;
-      }
-
-  pub going-done : {n : ℕ} {pivots₀ sides₀ pivots sides : List Float} {last : Elimination} {broke : Bool}
-      → Going (f .columns) pivots₀ sides₀ n pivots sides last → f .columns ≤ n → broke ≡ isBroken (eliminationOf last)
-      → Eliminated f p start broke pivots sides
-  going-done {n} G h b =
-      let e : n ≡ f .columns = le-antisymm (G .low) h in
-      record { broken = b ∙ ap isBroken (rw e at (G .last-is)); kept = rw e at (G .kept) }
-
--- where it is known whether the line broke
-pub line-known : {f : Film} {p : List ℕ} {start : ℕ} {broke known : Bool} {pivots sides : List Float} → broke ≡ known
-    → Eliminated f p start broke pivots sides → Eliminated f p start known pivots sides
-line-known e E = record { broken = sym e ∙ E .broken; kept = E .kept }
-
--- which weights a film has makes no difference to the elimination
-module _ (head : Head) (weights diagonals rights ups : List ℕ) (sources : List ℤ) (p : List ℕ) (start : ℕ) where
-  eliminated-weights : (n : ℕ)
-      → eliminated (filmOf head [] diagonals rights ups sources) p start n
-      ≡ eliminated (filmOf head weights diagonals rights ups sources) p start n
-  unfolding eliminated neighbours beside across
-  eliminated-weights zero = refl
-  eliminated-weights (suc n) = ap (stepAt (filmOf head [] diagonals rights ups sources) p (start + n)) (eliminated-weights n)
-
-  pub line-weights : {broke : Bool} {pivots sides : List Float}
-      → Eliminated (filmOf head [] diagonals rights ups sources) p start broke pivots sides
-      → Eliminated (filmOf head weights diagonals rights ups sources) p start broke pivots sides
-  line-weights E =
-      record {
-        broken = E .broken ∙ ap isBroken (eliminated-weights _);
-        kept = record {
-          pivot = λ k h. E .kept .pivot k h ∙ ap (λ (e : paper.Elimination). keptOf e .g) (eliminated-weights (suc k));
-          side = λ k h. E .kept .side k h ∙ ap (λ (e : paper.Elimination). keptOf e .h) (eliminated-weights (suc k));
-        };
-      }
-
--- a line that has not broken at its end has broken nowhere
+-- a step that is not broken comes from one that is not
 unbroken-before : (active : Bool) (m b k : Float) (e : paper.Elimination) → isBroken (eliminate active m b k e) ≡ false → isBroken e ≡ false
 unfolding eliminate
 unbroken-before active m b k idle h = refl
@@ -144,22 +64,145 @@ recall-is idle u s = refl
 recall-is (pivot g h) u s = rw s
 recall-is broken u s = absurd (true≢false u)
 
+-- a cell that is not active yields idle, whatever was handed to it
+pub idle-recalled : (m b k g h : Float) → idle ≡ eliminate false m b k (recall g h)
+unfolding eliminate
+idle-recalled m b k g h = go (lt (floatOf 0) g)
+  where
+    go : (t : Bool) → idle ≡ eliminate false m b k (cond t (pivot g h) idle)
+    go true = refl
+    go false = refl
+
 module _ (f : Film) (p : List ℕ) (start : ℕ) where
-  unbroken : (n : ℕ) → isBroken (eliminated f p start n) ≡ false → (k : ℕ) → k ≤ n → isBroken (eliminated f p start k) ≡ false
+  -- what the n-th cell of the row yields, and idle before the first
+  abbrev after : ℕ → paper.Elimination
+  after n = eliminated f p start n
+
+  eliminated-next : (n : ℕ) → after (suc n) ≡ stepAt f p (start + n) (after n)
   unfolding eliminated
-  unbroken zero h k l = rw (le-antisymm l (omega arith)) h
-  unbroken (suc n) h k l =
+  eliminated-next n = refl
+
+  sound-eliminated : (n : ℕ) → sound (after n) ≡ true
+  unfolding eliminated
+  sound-eliminated zero = refl
+  sound-eliminated (suc n) = sound-step _ _ _ _ _
+
+  -- a line that has not broken at a cell has broken nowhere before it
+  unbroken-below : (n : ℕ) → isBroken (after n) ≡ false → (k : ℕ) → k ≤ n → isBroken (after k) ≡ false
+  unfolding eliminated
+  unbroken-below zero h k l = rw (le-antisymm l (omega arith)) h
+  unbroken-below (suc n) h k l =
       elim (decLt n k) [
         | yes a ↦ rw (le-antisymm l a) h
-        | no a ↦ unbroken n (unbroken-before _ _ _ _ _ h) k (omega arith)
+        | no a ↦ unbroken-below n (unbroken-before _ _ _ _ _ h) k (omega arith)
       ]
+
+  -- so one that broke at a cell is broken at each later one
+  stays-broken : (k n : ℕ) → k ≤ n → isBroken (after k) ≡ true → isBroken (after n) ≡ true
+  stays-broken k n l h = go (isBroken (after n)) refl
+    where
+      go : (t : Bool) → isBroken (after n) ≡ t → t ≡ true
+      go true e = refl
+      go false e = absurd (true≢false (sym h ∙ unbroken-below n e k l))
+
+  -- what is kept of the cell in column k
+  abbrev keep-at : ℕ → Preceding
+  keep-at k = keptOf (after (suc k))
+
+  -- The loop: n cells of the row are done, none of them broke the line, and the last one's pivot and right side are handed on.
+  pub record Going (columns : ℕ) (pivots₀ sides₀ : List Float) (n : ℕ) (pivots sides : List Float) (preceding : Preceding) : Type 0 where
+    pub low : n ≤ columns
+    pub unbroken : isBroken (after n) ≡ false
+    pub handed : preceding ≡ keptOf (after n)
+    pub recorded : Recorded f p start n pivots sides
+    pub pivots-len : length pivots ≡ length pivots₀
+    pub sides-len : length sides ≡ length sides₀
+
+  pub going-begin : (columns : ℕ) (pivots sides : List Float) {preceding : Preceding} → preceding ≡ keptOf idle
+      → Going columns pivots sides 0 pivots sides preceding
+  unfolding eliminated
+  going-begin columns pivots sides e =
+      record {
+        low = omega arith;
+        unbroken = refl;
+        handed = e;
+        recorded = record { pivot = λ k h. absurd (omega arith); side = λ k h. absurd (omega arith) };
+        pivots-len = refl;
+        sides-len = refl;
+      }
+
+  -- the next step, from what was handed on: it is the model's (`here-is`)
+  module _ {columns n : ℕ} {pivots₀ sides₀ pivots sides : List Float} {preceding : Preceding} {here : paper.Elimination}
+      (G : Going columns pivots₀ sides₀ n pivots sides preceding) (b : n < columns)
+      (s : here ≡ stepAt f p (start + n) (recall (preceding .g) (preceding .h)))
+    where
+      here-is : here ≡ after (suc n)
+      here-is =
+          s
+          ∙ ap (stepAt f p (start + n)) (rw (G .handed) (recall-is (after n) (G .unbroken) (sound-eliminated n)))
+          ∙ sym (eliminated-next n)
+
+      pub going-next : {next : Preceding} → columns ≤ length pivots₀ → columns ≤ length sides₀ → isBroken here ≡ false → next ≡ keptOf here
+          → Going columns pivots₀ sides₀ (n + 1) (set pivots n (next .g)) (set sides n (next .h)) next
+      going-next {next} l m u k =
+          let z : next ≡ keep-at n = k ∙ ap keptOf here-is in
+          record {
+            low = omega arith;
+            unbroken = rw (add-one, ← here-is) u;
+            handed = rw add-one z;
+            recorded = record {
+              pivot = set-below pivots n _ nan (λ k. keep-at k .g) (omega (arith, G .pivots-len)) (G .recorded .pivot) (ap (λ (x : Preceding). x .g) z);
+              side = set-below sides n _ nan (λ k. keep-at k .h) (omega (arith, G .sides-len)) (G .recorded .side) (ap (λ (x : Preceding). x .h) z);
+            };
+            pivots-len = length-set pivots n (next .g) ∙ G .pivots-len;
+            sides-len = length-set sides n (next .h) ∙ G .sides-len;
+          }
+
+      -- a broken step may end the loop: the line is broken at its end too
+      pub going-broken : columns ≡ f .columns → isBroken here ≡ true → Eliminated f p start true pivots sides
+      going-broken c u =
+          record {
+            broken = sym (stays-broken (suc n) (f .columns) (omega arith) (rw (← here-is) u));
+            kept = λ z. absurd (true≢false z);
+          }
+
+  pub going-done : {n : ℕ} {pivots₀ sides₀ pivots sides : List Float} {preceding : Preceding}
+      → Going (f .columns) pivots₀ sides₀ n pivots sides preceding → f .columns ≤ n
+      → Eliminated f p start false pivots sides
+  going-done {n} G h =
+      let e : n ≡ f .columns = le-antisymm (G .low) h in
+      record { broken = sym (rw e at (G .unbroken)); kept = λ _. rw e at (G .recorded) }
 
   -- the step of column k, kept and recalled
   pub recalled-is : {pivots sides : List Float} → Eliminated f p start false pivots sides → (k : ℕ) → k < f .columns
-      → recall (getD pivots k nan) (getD sides k nan) ≡ eliminated f p start (suc k)
+      → recall (getD pivots k nan) (getD sides k nan) ≡ after (suc k)
   recalled-is E k h =
-      rw (E .kept .pivot k h, E .kept .side k h)
-      (recall-is (eliminated f p start (suc k)) (unbroken (f .columns) (sym (E .broken)) (suc k) h) (sound-eliminated k))
-    where
-      sound-eliminated : (k : ℕ) → sound (eliminated f p start (suc k)) ≡ true
-      sound-eliminated k = rw (eliminated-next f p start k) (sound-step _ _ _ _ _)
+      let R = E .kept refl in
+      rw (R .pivot k h, R .side k h)
+      (recall-is (after (suc k)) (unbroken-below (f .columns) (sym (E .broken)) (suc k) h) (sound-eliminated (suc k)))
+
+-- where it is known whether the line broke
+pub line-known : {f : Film} {p : List ℕ} {start : ℕ} {broke known : Bool} {pivots sides : List Float} → broke ≡ known
+    → Eliminated f p start broke pivots sides → Eliminated f p start known pivots sides
+line-known e E = record { broken = sym e ∙ E .broken; kept = λ z. E .kept (e ∙ z) }
+
+-- which weights a film has makes no difference to the elimination
+module _ (head : Head) (weights diagonals rights ups : List ℕ) (sources : List ℤ) (p : List ℕ) (start : ℕ) where
+  eliminated-weights : (n : ℕ)
+      → eliminated (filmOf head [] diagonals rights ups sources) p start n
+      ≡ eliminated (filmOf head weights diagonals rights ups sources) p start n
+  unfolding eliminated neighbours beside across
+  eliminated-weights zero = refl
+  eliminated-weights (suc n) = ap (stepAt (filmOf head [] diagonals rights ups sources) p (start + n)) (eliminated-weights n)
+
+  pub line-weights : {broke : Bool} {pivots sides : List Float}
+      → Eliminated (filmOf head [] diagonals rights ups sources) p start broke pivots sides
+      → Eliminated (filmOf head weights diagonals rights ups sources) p start broke pivots sides
+  line-weights E =
+      record {
+        broken = E .broken ∙ ap isBroken (eliminated-weights _);
+        kept = λ z. let R = E .kept z in record {
+          pivot = λ k h. R .pivot k h ∙ ap (λ (e : paper.Elimination). keptOf e .g) (eliminated-weights (suc k));
+          side = λ k h. R .side k h ∙ ap (λ (e : paper.Elimination). keptOf e .h) (eliminated-weights (suc k));
+        };
+      }

@@ -1,6 +1,6 @@
--- The elimination along a line as the code answers and keeps it, and as the way back recalls it.
+-- The elimination along a line as the code answers, hands on and keeps it, and as the next cell and the way back recall it.
 use mathlib.Core.Path.{_≡_}
-use mathlib.Core.Bool.{Bool, cond}
+use mathlib.Core.Bool.{Bool, false, cond}
 use mathlib.Core.List.{List}
 use Prim.Native.Nat.{ℕ, suc, _-_, _<_}
 use lib.IntN.{ℤ}
@@ -21,13 +21,13 @@ eliminationOf steps.Idle = paper.idle
 eliminationOf (steps.Pivot g h) = paper.pivot g h
 eliminationOf steps.Broken = paper.broken
 
--- What is kept of a step for the way back: pivot and right side, and 0 and 0 where there are none. A pivot is above 0, so that a
--- kept pivot of 0 marks a cell that is not active.
+-- What a step hands to the next cell, and what is kept of it for the way back: pivot and right side, and 0 and 0 where there are none.
 abbrev pub keptOf : paper.Elimination → Preceding
 keptOf paper.idle = record { g = paper.floatOf 0; h = paper.floatOf 0 }
 keptOf (paper.pivot g h) = record { g = g; h = h }
 keptOf paper.broken = record { g = paper.floatOf 0; h = paper.floatOf 0 }
 
+-- The step that g and h stand for, of a line that has not broken so far. A pivot is above 0, so that 0 marks a cell that is not active.
 abbrev pub recall : Float → Float → paper.Elimination
 recall g h = cond (lt (paper.floatOf 0) g) (paper.pivot g h) paper.idle
 
@@ -44,12 +44,13 @@ stepAt f p i e =
     (paper.floatOf (rightAt f (i - 1)))
     e
 
--- the first n steps along a line are kept
-pub record Kept (f : Film) (p : List ℕ) (start n : ℕ) (pivots sides : List Float) : Type 0 where
+-- the first n steps along a line stand in the two lists
+pub record Recorded (f : Film) (p : List ℕ) (start n : ℕ) (pivots sides : List Float) : Type 0 where
   pub pivot : (k : ℕ) → k < n → getD pivots k nan ≡ keptOf (paper.eliminated f p start (suc k)) .g
   pub side : (k : ℕ) → k < n → getD sides k nan ≡ keptOf (paper.eliminated f p start (suc k)) .h
 
--- the elimination of a whole line: whether it broke, and all of its steps
+-- The elimination of a whole line: whether it broke, and, if it did not, all of its steps. A broken line ends at the step that broke it, and
+-- nothing reads what it kept.
 pub record Eliminated (f : Film) (p : List ℕ) (start : ℕ) (broke : Bool) (pivots sides : List Float) : Type 0 where
   pub broken : broke ≡ paper.isBroken (paper.eliminated f p start (f .columns))
-  pub kept : Kept f p start (f .columns) pivots sides
+  pub kept : broke ≡ false → Recorded f p start (f .columns) pivots sides

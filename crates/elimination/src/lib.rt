@@ -13,7 +13,7 @@ ghost use Rattle.model.specs.Integers.{negative};
 ghost use Rattle.model.specs.Film.{filmOf, slackOf};
 ghost use Rattle.model.specs.Estimate.{pivot, pivotIf, eliminate as eliminateOf, isBroken};
 ghost use Rattle.cell.specs.Cell.{Bounded as CellBounded};
-ghost use Rattle.elimination.specs.Line.{eliminationOf, keptOf, Held, stepAt, Eliminated};
+ghost use Rattle.elimination.specs.Line.{eliminationOf, keptOf, recall, Held, stepAt, Eliminated};
 use cell::Cell;
 use model::Head;
 
@@ -24,7 +24,8 @@ pub enum Elimination {
     Broken,
 }
 
-// Pivot and right side of the cell before, which the next cell of the chain works from.
+// Pivot and right side of the cell before (g' and h' of document 01), handed along the chain of active cells. A pivot is above 0, so
+// g = 0 says that no active cell precedes: a chain begins.
 pub struct Preceding {
     pub g: f64,
     pub h: f64,
@@ -70,26 +71,18 @@ fn follow(m: f64, b: f64, k: f64, preceding: Preceding) -> Elimination
     )
 }
 
-// The step in a cell, from what the cell before it yielded: an idle cell ends the chain, and a broken one the line.
-fn eliminate(active: bool, m: f64, b: f64, k: f64, last: Elimination) -> Elimination
-    ensures { λ r. ⌜ eliminationOf r ≡ eliminateOf active m b k (eliminationOf last) ⌝ }
+// The step in a cell, from what was handed along: a cell that is not active ends the chain, an active one that none precedes begins one.
+fn eliminate(active: bool, m: f64, b: f64, k: f64, preceding: Preceding) -> Elimination
+    ensures { λ r. ⌜ eliminationOf r ≡ eliminateOf active m b k (recall (preceding .g) (preceding .h)) ⌝ }
 {
-    match last {
-        Elimination::Idle => {
-            if active {
-                pivot_if(m, b)
-            } else {
-                Elimination::Idle
-            }
+    if active {
+        if float::positive(preceding.g) {
+            follow(m, b, k, preceding)
+        } else {
+            pivot_if(m, b)
         }
-        Elimination::Pivot(g, h) => {
-            if active {
-                follow(m, b, k, Preceding { g, h })
-            } else {
-                Elimination::Idle
-            }
-        }
-        Elimination::Broken => Elimination::Broken,
+    } else {
+        Elimination::Idle
     }
 }
 
@@ -109,10 +102,10 @@ fn step(
     sources: &[i64],
     field: &[u32],
     at: usize,
-    last: Elimination,
+    preceding: Preceding,
 ) -> Elimination
     requires { ⌜ Held head (now diagonals) (now rights) (now ups) (now sources) (now field) × (at < length (now field)) ⌝ }
-    ensures { λ r. ⌜ eliminationOf r ≡ stepAt (filmOf head [] (now (diagonals .entry)) (now (rights .entry)) (now (ups .entry)) (now (sources .entry))) (now (field .entry)) at (eliminationOf last) ⌝ }
+    ensures { λ r. ⌜ eliminationOf r ≡ stepAt (filmOf head [] (now (diagonals .entry)) (now (rights .entry)) (now (ups .entry)) (now (sources .entry))) (now (field .entry)) at (recall (preceding .g) (preceding .h)) ⌝ }
 {
     let columns = head.columns as usize;
     let pressure = field[at];
@@ -122,32 +115,33 @@ fn step(
     let m = float::from_u32(cell.diagonal);
     let b = float::from_i64(right_side(cell.source, across));
     let k = float::from_u32(rights[previous(at)]);
-    eliminate(active(cell, pressure), m, b, k, last)
+    eliminate(active(cell, pressure), m, b, k, preceding)
 }
 
-// What is kept of a step for the way back: 0 and 0 where the cell has no pivot.
-fn kept(last: Elimination) -> Preceding
-    ensures { λ r. ⌜ r ≡ keptOf (eliminationOf last) ⌝ }
+// What a step hands to the next cell, and what is kept of it for the way back: 0 and 0 where the cell has no pivot.
+fn kept(here: Elimination) -> Preceding
+    ensures { λ r. ⌜ r ≡ keptOf (eliminationOf here) ⌝ }
 {
-    match last {
+    match here {
         Elimination::Idle => Preceding { g: 0.0, h: 0.0 },
         Elimination::Pivot(g, h) => Preceding { g, h },
         Elimination::Broken => Preceding { g: 0.0, h: 0.0 },
     }
 }
 
-// Whether the line is broken.
-fn is_broken(last: Elimination) -> bool
-    ensures { λ r. ⌜ r ≡ isBroken (eliminationOf last) ⌝ }
+// Whether a step broke the line.
+fn is_broken(here: Elimination) -> bool
+    ensures { λ r. ⌜ r ≡ isBroken (eliminationOf here) ⌝ }
 {
-    match last {
+    match here {
         Elimination::Idle => false,
         Elimination::Pivot(_, _) => false,
         Elimination::Broken => true,
     }
 }
 
-// Forwards along the row that begins at `start`: keeps each cell's pivot and right side, and answers whether the line broke.
+// Forwards along the row that begins at `start`: hands pivot and right side on from cell to cell, and keeps each cell's. A broken step ends
+// it, since nothing that follows can mend the line. Answers whether the line broke.
 pub fn eliminate_line(
     head: Head,
     diagonals: &[u32],
@@ -164,10 +158,10 @@ pub fn eliminate_line(
     ensures { λ r. ⌜ Eliminated (filmOf head [] (now (diagonals .entry)) (now (rights .entry)) (now (ups .entry)) (now (sources .entry))) (now (field .entry)) start r (now (pivots .exit)) (now (sides .exit)) ⌝ }
 {
     let columns = head.columns as usize;
-    let mut last = Elimination::Idle;
+    let mut preceding = Preceding { g: 0.0, h: 0.0 };
     let mut j = 0;
     while j < columns {
-        last = step(
+        let here = step(
             head,
             diagonals,
             rights,
@@ -175,12 +169,15 @@ pub fn eliminate_line(
             sources,
             field,
             start + j,
-            last,
+            preceding,
         );
-        let keep = kept(last);
-        pivots[j] = keep.g;
-        sides[j] = keep.h;
+        if is_broken(here) {
+            return true;
+        }
+        preceding = kept(here);
+        pivots[j] = preceding.g;
+        sides[j] = preceding.h;
         j += 1;
     }
-    is_broken(last)
+    false
 }

@@ -7,8 +7,8 @@ use Rattle.elimination.proofs.kept.Tie as tie
 enum-told : tie.Need-enum-told
 enum-told c = search needs
 
-enum-known-last : tie.Need-enum-known-last
-enum-known-last c = search needs
+enum-known-here : tie.Need-enum-known-here
+enum-known-here c = search needs
 
 enum-told-2 : tie.Need-enum-told-2
 enum-told-2 c = search needs
@@ -18,11 +18,11 @@ unfolding ofBits ofInt
 returns c = rw (c .enum-told .given .1)
 
 returns-2 : tie.Need-returns-2
-returns-2 c = rw (c .before .last .given .1)
+returns-2 c = rw (c .before .here .given .1)
 
 returns-3 : tie.Need-returns-3
 unfolding ofBits ofInt
 returns-3 c = rw (c .enum-told2 .given .1)
 
 pub kept-spec : {M : Type 1} → statement M
-kept-spec = tie.close (tie.spec enum-told enum-known-last enum-told-2 returns returns-2 returns-3)
+kept-spec = tie.close (tie.spec enum-told enum-known-here enum-told-2 returns returns-2 returns-3)
