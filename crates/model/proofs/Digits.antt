@@ -9,16 +9,16 @@ use borrow.Author.Tests.{lt-ltb, le-ltb}
 use lib.Dec.{ltb}
 use lib.IntN.{subℕ}
 use lib.ListN.{length, length-append}
-use Rattle.model.specs.Report.{digits, decimal, signed, _␣_, line}
+use Rattle.model.specs.Report.{decimalDigits, decimal, signed, _␣_, line}
 use Rattle.model.proofs.Integers.{sub-lt, sub-le, by-order}
 
 -- one digit, and one digit after others
-digits-one : (most n : ℕ) → n < 10 → digits (suc most) n ≡ (48 + n) ∷ []
-unfolding digits
+digits-one : (most n : ℕ) → n < 10 → decimalDigits (suc most) n ≡ (48 + n) ∷ []
+unfolding decimalDigits
 digits-one most n h = rw (lt-ltb n 10 h)
 
-digits-more : (most n : ℕ) → 10 ≤ n → digits (suc most) n ≡ digits most (n / 10) ++ (48 + n % 10) ∷ []
-unfolding digits
+digits-more : (most n : ℕ) → 10 ≤ n → decimalDigits (suc most) n ≡ decimalDigits most (n / 10) ++ (48 + n % 10) ∷ []
+unfolding decimalDigits
 digits-more most n h = rw (le-ltb n 10 h)
 
 -- a number without its last digit
@@ -26,7 +26,7 @@ tenth : (k n : ℕ) → n < 10 ^ suc k → n / 10 < 10 ^ k
 tenth k n h = div-lt-iff-lt-mul {k = 10} {x = n} {y = 10 ^ k} (omega arith) .1 (omega (arith, pow-suc 10 k))
 
 -- once there is room for all digits, more room changes nothing
-digits-room : (k n : ℕ) → n < 10 ^ suc k → digits (suc k) n ≡ digits (suc (suc k)) n
+digits-room : (k n : ℕ) → n < 10 ^ suc k → decimalDigits (suc k) n ≡ decimalDigits (suc (suc k)) n
 digits-room zero n h = digits-one 0 n (omega arith) ∙ sym (digits-one 1 n (omega arith))
 digits-room (suc k) n h =
     let shorter = digits-room k (n / 10) (tenth (suc k) n h) in
@@ -45,24 +45,24 @@ decimal-more n h l =
 -- ---- lengths of numbers
 
 -- as many digits at most as there is room for
-digits-most : (most n : ℕ) → length (digits most n) ≤ most
-unfolding digits
+digits-most : (most n : ℕ) → length (decimalDigits most n) ≤ most
+unfolding decimalDigits
 digits-most zero n = le-refl 0
 digits-most (suc most) n =
     by-order n 10
     (λ l. rw (digits-one most n l) (omega arith))
-    (λ l. rw (digits-more most n l) (omega (arith, length-append (digits most (n / 10)) ((48 + n % 10) ∷ []), digits-most most (n / 10))))
+    (λ l. rw (digits-more most n l) (omega (arith, length-append (decimalDigits most (n / 10)) ((48 + n % 10) ∷ []), digits-most most (n / 10))))
 
 -- a number below 10 ^ j has at most j digits
-digits-length : (most j n : ℕ) → n < 10 ^ suc j → length (digits most n) ≤ suc j
-unfolding digits
+digits-length : (most j n : ℕ) → n < 10 ^ suc j → length (decimalDigits most n) ≤ suc j
+unfolding decimalDigits
 digits-length zero j n h = omega arith
 digits-length (suc most) zero n h = rw (digits-one most n (omega arith)) (le-refl 1)
 digits-length (suc most) (suc j) n h =
     let shorter = digits-length most j (n / 10) (tenth (suc j) n h) in
     by-order n 10
     (λ l. rw (digits-one most n l) (omega arith))
-    (λ l. rw (digits-more most n l) (omega (arith, length-append (digits most (n / 10)) ((48 + n % 10) ∷ []))))
+    (λ l. rw (digits-more most n l) (omega (arith, length-append (decimalDigits most (n / 10)) ((48 + n % 10) ∷ []))))
 
 -- in decimal
 pub decimal-most : (n : ℕ) → length (decimal n) ≤ 20

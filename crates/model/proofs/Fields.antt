@@ -16,7 +16,7 @@ use lib.Seq.{getD-append-add}
 use Rattle.model.specs.Lists.{tabulate}
 use Rattle.model.specs.Refusals.{pass, _orElse_, failIf}
 use Rattle.model.specs.Bytes.{byteAt, wordAt}
-use Rattle.model.specs.Fields.{Field, body, behind, endOf, fieldAt, fieldCheck, walk, field, bytesOf}
+use Rattle.model.specs.Fields.{Field, body, behind, fieldsEnd, fieldAt, fieldTest, walk, field, bytesOf}
 use Rattle.model.specs.File.{Bytes}
 use Rattle.model.proofs.Checks.{orElse-assoc, orElse-parts, failIf-pass, pass-both}
 
@@ -31,7 +31,7 @@ Passes (f ∷ fs) l at =
 pub walk-passes : (fs : List Field) (l : List ℕ) (at : ℕ) → walk fs l at ≡ pass → Passes fs l at
 walk-passes [] l at e = tt
 walk-passes (f ∷ fs) l at e =
-    let a = orElse-parts (fieldCheck f l at) _ e in
+    let a = orElse-parts (fieldTest f l at) _ e in
     let b = orElse-parts (fieldAt l at (f .tag) (f .size)) _ (a .0) in
     (b .0, b .1, walk-passes fs l (behind at (f .size)) (a .1))
 
@@ -41,12 +41,12 @@ passes-walk [] l at p = refl
 passes-walk (f ∷ fs) l at p = pass-both (pass-both (p .0) (p .1)) (passes-walk fs l (behind at (f .size)) (p .2))
 
 -- a walk over two lists of fields, and where it ends
-pub walk-append : (fs gs : List Field) (l : List ℕ) (at : ℕ) → walk (fs ++ gs) l at ≡ (walk fs l at orElse walk gs l (endOf fs at))
+pub walk-append : (fs gs : List Field) (l : List ℕ) (at : ℕ) → walk (fs ++ gs) l at ≡ (walk fs l at orElse walk gs l (fieldsEnd fs at))
 walk-append [] gs l at = refl
 walk-append (f ∷ fs) gs l at =
-    ap (λ c. fieldCheck f l at orElse c) (walk-append fs gs l (behind at (f .size))) ∙ sym (orElse-assoc (fieldCheck f l at) _ _)
+    ap (λ c. fieldTest f l at orElse c) (walk-append fs gs l (behind at (f .size))) ∙ sym (orElse-assoc (fieldTest f l at) _ _)
 
-pub end-append : (fs gs : List Field) (at : ℕ) → endOf (fs ++ gs) at ≡ endOf gs (endOf fs at)
+pub end-append : (fs gs : List Field) (at : ℕ) → fieldsEnd (fs ++ gs) at ≡ fieldsEnd gs (fieldsEnd fs at)
 end-append [] gs at = refl
 end-append (f ∷ fs) gs at = end-append fs gs (behind at (f .size))
 
@@ -69,7 +69,7 @@ header l at tag size e =
     }
 
 -- a list of fields that passes ends within the file
-pub passes-end : (fs : List Field) (l : List ℕ) (at : ℕ) → Passes fs l at → at ≤ length l → endOf fs at ≤ length l
+pub passes-end : (fs : List Field) (l : List ℕ) (at : ℕ) → Passes fs l at → at ≤ length l → fieldsEnd fs at ≤ length l
 passes-end [] l at p h = h
 passes-end (f ∷ fs) l at p h =
     passes-end fs l (behind at (f .size)) (p .2) (header l at (f .tag) (f .size) (p .0) .fits)
@@ -102,7 +102,7 @@ module _ {l : List ℕ} (B : Bytes l) where
 
   -- the file up to the end of a list of fields
   pub walked : (fs : List Field) (at : ℕ) → Passes fs l at
-      → tabulate (endOf fs at) (byteAt l) ≡ tabulate at (byteAt l) ++ bytesOf fs (bodiesIn fs l at)
+      → tabulate (fieldsEnd fs at) (byteAt l) ≡ tabulate at (byteAt l) ++ bytesOf fs (bodiesIn fs l at)
   walked [] at p = sym (append-nil _)
   walked (f ∷ fs) at p =
       let next = behind at (f .size) in
@@ -190,7 +190,7 @@ laid (f ∷ fs) (x ∷ bodies) l p at fit e b =
     )
 
 -- where a list of fields ends is the length of its bytes
-pub bytes-length : (fs : List Field) (bodies : List (List ℕ)) (at : ℕ) → Fit fs bodies → at + length (bytesOf fs bodies) ≡ endOf fs at
+pub bytes-length : (fs : List Field) (bodies : List (List ℕ)) (at : ℕ) → Fit fs bodies → at + length (bytesOf fs bodies) ≡ fieldsEnd fs at
 bytes-length [] bodies at fit = add-zero at
 bytes-length (f ∷ fs) [] at fit = absurd (omega arith)
 bytes-length (f ∷ fs) (b ∷ bodies) at fit =
@@ -217,7 +217,7 @@ abbrev pub AllLocal : List Field → Type 0
 AllLocal [] = Unit {0}
 AllLocal (f ∷ fs) = Local f × AllLocal fs
 
-end-above : (fs : List Field) (at : ℕ) → at ≤ endOf fs at
+end-above : (fs : List Field) (at : ℕ) → at ≤ fieldsEnd fs at
 end-above [] at = le-refl at
 end-above (f ∷ fs) at = omega (arith, end-above fs (behind at (f .size)))
 
@@ -236,7 +236,7 @@ module _ {n : ℕ} {l m : List ℕ} (A : Agree n l m) where
         A .same (at + 1 + 1) (omega arith),
       )
 
-  pub walk-same : (fs : List Field) (at : ℕ) → AllLocal fs → endOf fs at ≤ n → walk fs l at ≡ walk fs m at
+  pub walk-same : (fs : List Field) (at : ℕ) → AllLocal fs → fieldsEnd fs at ≤ n → walk fs l at ≡ walk fs m at
   walk-same [] at a h = refl
   walk-same (f ∷ fs) at a h =
       let next = behind at (f .size) in

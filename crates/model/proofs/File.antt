@@ -24,7 +24,7 @@ use Rattle.model.specs.Film.{beside, across, neighbours}
 use Rattle.model.specs.Checks.{outside, shapeCheck, ceilingCheck, notDominant}
 use Rattle.model.specs.Result.{answered, answerBy}
 use Rattle.model.specs.Bytes.{byteAt, wordAt, longAt, signedOf, word, long, unsignedOf}
-use Rattle.model.specs.Fields.{Field, body, endOf, fieldAt, walk, unexpectedAt, field, bytesOf}
+use Rattle.model.specs.Fields.{Field, body, fieldsEnd, fieldAt, walk, unexpectedAt, field, bytesOf}
 use Rattle.model.specs.File.{cells, ringed, weightsFrom, thicknessesFrom, wedgeCheck, gauged, rowsOffset, columnsOffset, ceilingOffset, weightsOffset, thicknessesOffset, wedgeOffset, endOffset, cellsIn, ringIn, gaugeIn, gaugeDominance, fieldsCheck, fileCheck, readFilm, weightBytes, bodies, fileOf, weightsCheck, thicknessesCheck, gaugeCheck, Bytes, Values}
 use Rattle.model.specs.FilmF.{bytesF, FileEdges}
 use Rattle.model.proofs.Integers.{by-order}
@@ -391,8 +391,8 @@ module _ {l : List ℕ} (B : Bytes l) where
   unfolding fileOf
   fields-write F =
       let fs = fieldsOf (gaugeIn l) in
-      let len : length l ≡ endOf fs 0 = omega (arith, F .ends, passes-end fs l 0 (F .fields) (omega arith)) in
-      ap (bytesOf fs) (sym bodies-in) ∙ sym (walked B fs 0 (F .fields)) ∙ sym (tabulate-is (endOf fs 0) (byteAt l) 0 l len (λ i h. refl))
+      let len : length l ≡ fieldsEnd fs 0 = omega (arith, F .ends, passes-end fs l 0 (F .fields) (omega arith)) in
+      ap (bytesOf fs) (sym bodies-in) ∙ sym (walked B fs 0 (F .fields)) ∙ sym (tabulate-is (fieldsEnd fs 0) (byteAt l) 0 l len (λ i h. refl))
 
   -- the numbers in the file have the lengths and widths that calls ask for
   fields-values : Values (gaugeIn l)

@@ -10,7 +10,7 @@ use Rattle.model.specs.Estimate.{eliminate, substitute, floorOf, wholePa
 use Rattle.model.specs.Run.{orderOf, readied, run, proposeOwn, proposeLines}
 use Rattle.model.specs.Fields.{fieldAt}
 use Rattle.model.specs.File.{fileCheck, gaugeDominance}
-use Rattle.model.specs.Report.{digits, peakOf, cellLines}
+use Rattle.model.specs.Report.{decimalDigits, peakOf, cellLines}
 use lib.Ieee.{add, sub, mul, div, lt, le, ofInt, eq, sum, neg, round, size, span, climb, units, odd}
 use lib.Count.{trailingZeros}
 use Rattle.model.specs.FilmF.{Edges, bytesF, reportF, Computed}
@@ -38,5 +38,5 @@ film-f =
     }
 
 pub film-f-computed : Computed
-unfolding bytesF reportF sweep firstOf beside across neighbours filmFits badCoefficient zeroWeight notDominant sizeCheck coefficientCheck weightCheck dominanceCheck margin orderOf readied run fileCheck fieldAt gaugeDominance digits peakOf cellLines eliminate substitute floorOf wholePart eliminated solved estimate add sub mul div lt le ofInt eq sum neg round size span climb units odd trailingZeros proposeOwn proposeLines raisedBy riseCount withinCeiling tight propose
+unfolding bytesF reportF sweep firstOf beside across neighbours filmFits badCoefficient zeroWeight notDominant sizeCheck coefficientCheck weightCheck dominanceCheck margin orderOf readied run fileCheck fieldAt gaugeDominance decimalDigits peakOf cellLines eliminate substitute floorOf wholePart eliminated solved estimate add sub mul div lt le ofInt eq sum neg round size span climb units odd trailingZeros proposeOwn proposeLines raisedBy riseCount withinCeiling tight propose
 film-f-computed = record { report = refl; estimated = refl; proposals-on = refl }

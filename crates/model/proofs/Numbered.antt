@@ -15,7 +15,7 @@ use Rattle.model.specs.Film.{Film, sizeOf}
 use Rattle.model.specs.Coefficients.{formed}
 use Rattle.model.specs.Checks.{outside, filmFits, badCoefficient, zeroWeight, notDominant, sizeCheck, coefficientCheck, weightCheck, dominanceCheck, orderCheck, lineCheck, fieldCheck}
 use Rattle.model.specs.Bytes.{byteAt, wordAt, longAt, signedOf}
-use Rattle.model.specs.Fields.{Field, body, behind, endOf, fieldAt, walk}
+use Rattle.model.specs.Fields.{Field, body, behind, fieldsEnd, fieldAt, walk}
 use Rattle.model.specs.File.{shapeField, ceilingField, weightsField, thicknessesField, wedgeField, gauged, cellsIn, ringIn, gaugeIn, gaugeDominance, fileCheck}
 use Rattle.model.specs.FileCalls.{loadCheck}
 use Rattle.model.specs.Proposal.{rowCheck}
@@ -109,6 +109,6 @@ unfolding fileCheck
 load-numbered bytes weights thicknesses =
     let fields = gauged (cellsIn bytes) (ringIn bytes) in
     let buffers = by-if (not (eqb (length weights) 1024 && eqb (length thicknesses) 1156)) 10 0 (omega arith) in
-    let behind = by-if (ltb (endOf fields 0) (length bytes)) 2 (endOf fields 0) (omega arith) in
+    let behind = by-if (ltb (fieldsEnd fields 0) (length bytes)) 2 (fieldsEnd fields 0) (omega arith) in
     by-or _ _ buffers
     (by-or _ _ (by-or _ _ (walk-numbered fields bytes 0 (gauged-numbered (cellsIn bytes) (ringIn bytes))) behind) (dominance-numbered (gaugeIn bytes)))

@@ -14,7 +14,7 @@ use Rattle.monotone.proofs.Order.{⊑-cells, rises-refl}
 use Rattle.model.specs.Lists.{allBelow}
 use Rattle.model.specs.Integers.{atMostZero}
 use Rattle.model.specs.Film.{Film, sizeOf, weightAt, slack, rule}
-use Rattle.model.specs.Proposal.{raisedAt, raisedBy, rises, riseCount, withinCeiling, tight, accepts, decide, propose}
+use Rattle.model.specs.Proposal.{raisedAt, raisedBy, rises, riseCount, withinCeiling, tight, accepts, decided, propose}
 use Rattle.model.proofs.Lists.{tabulate-length, tabulate-at, all-at}
 use Rattle.model.proofs.Film.{bounded-cells, rule-rises}
 use Rattle.model.specs.Accepted.{Accepted}
@@ -88,6 +88,6 @@ module _ (f : Film) (start : ℕ) (proposal p : List ℕ) where
   propose-rises A B l = go (accepts f start p (raisedBy f start proposal p)) refl
     where
       go : (t : Bool) → accepts f start p (raisedBy f start proposal p) ≡ t
-          → Rises (rule f) p (decide t f start p (raisedBy f start proposal p) .lent)
+          → Rises (rule f) p (decided t f start p (raisedBy f start proposal p) .lent)
       go true e = accepted-rises f start p _ (raised-lifted l (B .len)) e A B
       go false e = rises-refl B

@@ -12,7 +12,7 @@ use Rattle.monotone.specs.Rule.{Rule, Bounded, Rises, LeastAbove}
 use Rattle.monotone.specs.Ordering.{Permutes}
 use Rattle.monotone.specs.Sweep as theory
 use Rattle.monotone.specs.Outcome.{Says, Outcome}
-use Rattle.monotone.specs.History.{Verdict, Good, verdictOf}
+use Rattle.monotone.specs.History.{Verdict, Good, sweepVerdict}
 use Rattle.monotone.proofs.Order.{feasible-satisfied, rises-refl, rises-trans}
 use Rattle.monotone.proofs.Ordering.{permutes-up, permutes-down, permutes-split}
 use Rattle.monotone.proofs.Sweep.{sweep-outcome, Counted, sweep-counts}
@@ -47,7 +47,7 @@ runVerdict n budget (stopped c) = cond (leb n budget) Verdict.exhausted Verdict.
 runVerdict n budget (over i c) = Verdict.over
 
 -- is that of its sweep
-verdict-end : (n budget : ℕ) (a : theory.Ending) (c : Counts) → runVerdict n budget (endOf a c) ≡ verdictOf n budget a
+verdict-end : (n budget : ℕ) (a : theory.Ending) (c : Counts) → runVerdict n budget (endOf a c) ≡ sweepVerdict n budget a
 verdict-end n budget theory.done c = refl
 verdict-end n budget (theory.over i) c = refl
 verdict-end n budget theory.stopped c = refl
@@ -77,7 +77,7 @@ module _ (f : Film) (budget order : ℕ) (on : Bool) (p : List ℕ) where
 pub good-least : {F : Rule} {p q : List ℕ} → Good F p q Verdict.done → LeastAbove F p q
 good-least g =
     record {
-      feasible = g .told;
+      feasible = g .shows;
       above = g .rises .rose;
       under = λ z m. g .rises .under z (feasible-satisfied m);
     }

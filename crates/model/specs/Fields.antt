@@ -21,9 +21,9 @@ abbrev pub behind : ℕ → ℕ → ℕ
 behind at size = body at + size
 
 -- where a list of fields from an offset on ends
-abbrev pub endOf : List Field → ℕ → ℕ
-endOf [] at = at
-endOf (f ∷ fs) at = endOf fs (behind at (f .size))
+abbrev pub fieldsEnd : List Field → ℕ → ℕ
+fieldsEnd [] at = at
+fieldsEnd (f ∷ fs) at = fieldsEnd fs (behind at (f .size))
 
 -- one field: header, tag, length, presence of the body
 unfoldable pub fieldAt : List ℕ → ℕ → ℕ → ℕ → Check
@@ -33,13 +33,13 @@ fieldAt bytes at tag size =
     orElse failIf (ltb (length bytes) (behind at size)) 1 (length bytes)
 
 -- and its values
-abbrev pub fieldCheck : Field → List ℕ → ℕ → Check
-fieldCheck f bytes at = fieldAt bytes at (f .tag) (f .size) orElse f .check bytes (body at)
+abbrev pub fieldTest : Field → List ℕ → ℕ → Check
+fieldTest f bytes at = fieldAt bytes at (f .tag) (f .size) orElse f .check bytes (body at)
 
 -- field by field, from an offset on
 abbrev pub walk : List Field → List ℕ → ℕ → Check
 walk [] bytes at = pass
-walk (f ∷ fs) bytes at = fieldCheck f bytes at orElse walk fs bytes (behind at (f .size))
+walk (f ∷ fs) bytes at = fieldTest f bytes at orElse walk fs bytes (behind at (f .size))
 
 -- document 01: stray, bytes that follow the last field
 abbrev pub unexpectedAt : List ℕ → ℕ → Check

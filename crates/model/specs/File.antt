@@ -14,7 +14,7 @@ use Rattle.model.specs.Coefficients.{formed}
 use Rattle.model.specs.Checks.{outside, shapeCheck, ceilingCheck, notDominant}
 use Rattle.model.specs.Result.{Answer, answerBy}
 use Rattle.model.specs.Bytes.{byteAt, wordAt, longAt, signedOf, word, long, unsignedOf}
-use Rattle.model.specs.Fields.{Field, body, endOf, walk, unexpectedAt, bytesOf}
+use Rattle.model.specs.Fields.{Field, body, fieldsEnd, walk, unexpectedAt, bytesOf}
 
 -- the number of cells, and of thicknesses with the boundary ring
 abbrev pub cells : ℕ → ℕ → ℕ
@@ -69,19 +69,19 @@ abbrev pub columnsOffset : ℕ
 columnsOffset = rowsOffset + 1
 
 abbrev pub ceilingOffset : ℕ
-ceilingOffset = body (endOf (shapeField ∷ []) 0)
+ceilingOffset = body (fieldsEnd (shapeField ∷ []) 0)
 
 abbrev pub weightsOffset : ℕ
-weightsOffset = body (endOf (shapeField ∷ ceilingField ∷ []) 0)
+weightsOffset = body (fieldsEnd (shapeField ∷ ceilingField ∷ []) 0)
 
 abbrev pub thicknessesOffset : ℕ → ℕ
-thicknessesOffset n = body (endOf (opening n) 0)
+thicknessesOffset n = body (fieldsEnd (opening n) 0)
 
 abbrev pub wedgeOffset : ℕ → ℕ → ℕ
-wedgeOffset n t = body (endOf (opening n ++ (thicknessesField t ∷ [])) 0)
+wedgeOffset n t = body (fieldsEnd (opening n ++ (thicknessesField t ∷ [])) 0)
 
 abbrev pub endOffset : ℕ → ℕ → ℕ
-endOffset n t = endOf (gauged n t) 0
+endOffset n t = fieldsEnd (gauged n t) 0
 
 -- the numbers of cells and of thicknesses, by the shape that stands in a file
 abbrev pub cellsIn : List ℕ → ℕ
@@ -108,7 +108,7 @@ gaugeDominance g = failFirst (notDominant (formed g)) (g .rows * g .columns) 9 (
 
 -- field by field, each with its values; then what follows them
 abbrev pub fieldsCheck : List Field → List ℕ → Check
-fieldsCheck fields bytes = walk fields bytes 0 orElse unexpectedAt bytes (endOf fields 0)
+fieldsCheck fields bytes = walk fields bytes 0 orElse unexpectedAt bytes (fieldsEnd fields 0)
 
 -- the fields of the film whose shape stands in a file; then 9
 unfoldable pub fileCheck : List ℕ → Check

@@ -62,13 +62,13 @@ proposalAnswerOf answers.Rejected = answered rejected
 proposalAnswerOf (answers.Refused r) = refusal r
 
 -- the new field q in place of p, or p
-abbrev pub decide : Bool → Film → ℕ → List ℕ → List ℕ → Result ProposalAnswer
-decide taken f start p q =
+abbrev pub decided : Bool → Film → ℕ → List ℕ → List ℕ → Result ProposalAnswer
+decided taken f start p q =
     cond taken (record { answer = accepted (riseCount f start p q); lent = q }) (record { answer = rejected; lent = p })
 
 -- a proposal for the row that begins at `start`
 unfoldable pub propose : Film → ℕ → List ℕ → List ℕ → Result ProposalAnswer
-propose f start proposal p = decide (accepts f start p (raisedBy f start proposal p)) f start p (raisedBy f start proposal p)
+propose f start proposal p = decided (accepts f start p (raisedBy f start proposal p)) f start p (raisedBy f start proposal p)
 
 -- the tests of the calls that take a film, a field, and a slice of numbers for a line
 abbrev pub rowCheck : Film → List ℕ → List ℕ → ℕ → Check

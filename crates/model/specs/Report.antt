@@ -14,13 +14,13 @@ use Rattle.model.specs.File.{readFilm}
 use Rattle.model.specs.declared.Counts.{Counts}
 
 -- a number in decimal, with at most as many digits as said
-unfoldable pub digits : ℕ → ℕ → List ℕ
-digits zero n = []
-digits (suc most) n = cond (ltb n 10) ((48 + n) ∷ []) (digits most (n / 10) ++ (48 + n % 10) ∷ [])
+unfoldable pub decimalDigits : ℕ → ℕ → List ℕ
+decimalDigits zero n = []
+decimalDigits (suc most) n = cond (ltb n 10) ((48 + n) ∷ []) (decimalDigits most (n / 10) ++ (48 + n % 10) ∷ [])
 
 -- 20 digits hold every number of 64 bits
 abbrev pub decimal : ℕ → List ℕ
-decimal n = digits 20 n
+decimal n = decimalDigits 20 n
 
 abbrev pub signed : ℤ → List ℕ
 signed (pos n) = decimal n
@@ -122,7 +122,7 @@ reportBy (refused number place) = refusedLine number place
 abbrev pub reportOf : List ℕ → List ℕ
 reportOf bytes = reportBy (readFilm bytes)
 
--- as many bytes of a file as decide its report (`report-prefix`): one more than the longest accepted file, which has
+-- as many bytes of a file as decided its report (`report-prefix`): one more than the longest accepted file, which has
 -- 25 + 2 × 1,024 + 34 × 34 = 3,229
 abbrev pub enough : ℕ
 enough = 3230

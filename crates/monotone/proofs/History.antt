@@ -13,7 +13,7 @@ use Rattle.monotone.specs.Field.{total, _⊑_}
 use Rattle.monotone.specs.Rule.{Rule, Monotone, Bounded, Feasible, Start, Rises, Least}
 use Rattle.monotone.specs.Sweep.{Ending, done, over, stopped, Swept}
 use Rattle.monotone.specs.Outcome.{Says, Outcome}
-use Rattle.monotone.specs.History.{Verdict, Told, Good, verdictOf, countOf, zeros, Each, exhaustions, Promise}
+use Rattle.monotone.specs.History.{Verdict, Shows, Good, sweepVerdict, countOf, zeros, Each, exhaustions, Promise}
 use Rattle.monotone.proofs.Order.{feasible-satisfied, ⊑-antisym, total-mono, bounded-total, rises-refl, rises-trans}
 use Rattle.monotone.proofs.Ordering.{permutes-up}
 use Rattle.monotone.proofs.Sweep.{sweep-outcome, visits-bound}
@@ -44,22 +44,22 @@ least-one {F} {p} {q} A B =
 
 -- Good calls: one that leaves the field alone, a sound proposal, and a sweep after proposals that took the field from p to q.
 pub good-same : {F : Rule} {p : List ℕ} → Bounded F p → Good F p p Verdict.other
-good-same f = record { rises = rises-refl f; told = tt }
+good-same f = record { rises = rises-refl f; shows = tt }
 
 pub good-proposal : {F : Rule} {p q : List ℕ} → Rises F p q → Good F p q Verdict.other
-good-proposal A = record { rises = A; told = tt }
+good-proposal A = record { rises = A; shows = tt }
 
 pub good-sweep : {F : Rule} {p q : List ℕ} {budget : ℕ} (r : Swept) → Rises F p q → Outcome F q budget r
-    → Good F p (r .last .field) (verdictOf (F .size) budget (r .answer))
+    → Good F p (r .last .field) (sweepVerdict (F .size) budget (r .answer))
 good-sweep {F} {p} {q} {budget} r A O =
-    record { rises = rises-trans A (O .risen .rises); told = by (r .answer) (O .says) }
+    record { rises = rises-trans A (O .risen .rises); shows = by (r .answer) (O .says) }
   where
     covered : (t : Bool) → leb (F .size) budget ≡ t → (F .size ≤ budget → 0 < r .last .raises)
-        → Told F p (r .last .field) (cond t Verdict.exhausted Verdict.other)
+        → Shows F p (r .last .field) (cond t Verdict.exhausted Verdict.other)
     covered true e h = omega (arith, h (leb-true _ _ e), O .risen .gain, total-mono (A .rose))
     covered false e h = tt
 
-    by : (x : Ending) → Says F q budget x (r .last) → Told F p (r .last .field) (verdictOf (F .size) budget x)
+    by : (x : Ending) → Says F q budget x (r .last) → Shows F p (r .last .field) (sweepVerdict (F .size) budget x)
     by done h = h
     by (over i) h = λ z M l. h .2 z M (A .under z (feasible-satisfied M) l)
     by stopped h = covered (leb (F .size) budget) refl (h .1)
@@ -95,15 +95,15 @@ module _ {F : Rule} {s p : List ℕ} (S : Start F s) (R : Rises F s p) where
 
   good-done : {q : List ℕ} → Good F p q Verdict.done → Least F q
   good-done g =
-      record { feasible = g .told; under = λ z M. g .rises .under z (feasible-satisfied M) (reached-under z M) }
+      record { feasible = g .shows; under = λ z M. g .rises .under z (feasible-satisfied M) (reached-under z M) }
 
   good-over : {q : List ℕ} → Good F p q Verdict.over → (z : List ℕ) → Feasible F z → ⊥
-  good-over g z M = g .told z M (reached-under z M)
+  good-over g z M = g .shows z M (reached-under z M)
 
 good-gain : {F : Rule} (v : Verdict) {p q : List ℕ} → Good F p q v → countOf v + total p ≤ total q
 good-gain Verdict.done g = omega (arith, total-mono (g .rises .rose))
 good-gain Verdict.over g = omega (arith, total-mono (g .rises .rose))
-good-gain Verdict.exhausted g = omega (arith, g .told)
+good-gain Verdict.exhausted g = omega (arith, g .shows)
 good-gain Verdict.other g = omega (arith, total-mono (g .rises .rose))
 
 -- of each step: P gives Q, and P and R give Q

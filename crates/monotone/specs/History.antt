@@ -14,22 +14,22 @@ pub data Verdict : Type 0 where
   done over exhausted other : Verdict
 
 -- what a verdict says of a step that takes the field from p to q
-abbrev pub Told : Rule → List ℕ → List ℕ → Verdict → Type 0
-Told F p q done = Feasible F q
-Told F p q over = (z : List ℕ) → Feasible F z → p ⊑ z → ⊥
-Told F p q exhausted = total p < total q
-Told F p q other = Unit {0}
+abbrev pub Shows : Rule → List ℕ → List ℕ → Verdict → Type 0
+Shows F p q done = Feasible F q
+Shows F p q over = (z : List ℕ) → Feasible F z → p ⊑ z → ⊥
+Shows F p q exhausted = total p < total q
+Shows F p q other = Unit {0}
 
 -- a step that is good by itself
 pub record Good (F : Rule) (p q : List ℕ) (v : Verdict) : Type 0 where
   pub rises : Rises F p q
-  pub told : Told F p q v
+  pub shows : Shows F p q v
 
 -- the verdict of a sweep of n cells with that budget
-abbrev pub verdictOf : ℕ → ℕ → Ending → Verdict
-verdictOf n budget Ending.done = done
-verdictOf n budget (Ending.over i) = over
-verdictOf n budget Ending.stopped = cond (leb n budget) exhausted other
+abbrev pub sweepVerdict : ℕ → ℕ → Ending → Verdict
+sweepVerdict n budget Ending.done = done
+sweepVerdict n budget (Ending.over i) = over
+sweepVerdict n budget Ending.stopped = cond (leb n budget) exhausted other
 
 -- 1 for exhausted
 abbrev pub countOf : Verdict → ℕ

@@ -11,7 +11,7 @@ use Rattle.monotone.specs.Rule.{Bounded}
 use Rattle.model.specs.Film.{Film, rule}
 use Rattle.model.specs.Accepted.{Accepted}
 use Rattle.model.specs.Result.{Gives}
-use Rattle.model.specs.Proposal.{ProposalAnswer, lineStart, raisedBy, rises, riseCount, accepts, decide, propose}
+use Rattle.model.specs.Proposal.{ProposalAnswer, lineStart, raisedBy, rises, riseCount, accepts, decided, propose}
 use Rattle.model.specs.Estimate.{estimate}
 use Rattle.model.specs.Run.{Readied, cellsOf, proposeOwn, proposeLines, readied}
 use Rattle.model.proofs.Lists.{count-bound}
@@ -38,7 +38,7 @@ module _ (f : Film) where
       q : List ℕ
       q = raisedBy f (lineStart f line) (estimate f p (lineStart f line)) p
 
-      go : (t : Bool) → 0 + cellsOf (decide t f (lineStart f line) p q .answer) ≤ f .columns
+      go : (t : Bool) → 0 + cellsOf (decided t f (lineStart f line) p q .answer) ≤ f .columns
       go true = omega (arith, count-bound (λ j. rises p q (lineStart f line + j)) (f .columns))
       go false = omega arith
 

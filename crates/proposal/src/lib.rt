@@ -10,7 +10,7 @@ ghost use lib.ListN.{length};
 ghost use Rattle.model.specs.Film.{filmOf};
 ghost use Rattle.model.specs.Accepted.{Limited};
 ghost use Rattle.model.specs.Result.{Gives};
-ghost use Rattle.model.specs.Proposal.{accepts, decide, propose as proposeOf};
+ghost use Rattle.model.specs.Proposal.{accepts, decided, propose as proposeOf};
 ghost use Rattle.tightness.specs.Row.{Row};
 ghost use Rattle.proposal.specs.Decision.{decisionOf};
 use model::Head;
@@ -42,7 +42,7 @@ fn settle(
 ) -> Decision
     requires { ⌜ ((w : List ℕ) × Limited (filmOf head w (now diagonals) (now rights) (now ups) (now sources))) ⌝ }
     requires { ⌜ Row head start (now field) (now raised) ⌝ }
-    ensures { λ r. ⌜ Gives (decide (accepts (filmOf head [] (now (diagonals .entry)) (now (rights .entry)) (now (ups .entry)) (now (sources .entry))) start (now (field .entry)) (now (raised .entry))) (filmOf head [] (now (diagonals .entry)) (now (rights .entry)) (now (ups .entry)) (now (sources .entry))) start (now (field .entry)) (now (raised .entry))) (decisionOf r) (now (field .exit)) ⌝ }
+    ensures { λ r. ⌜ Gives (decided (accepts (filmOf head [] (now (diagonals .entry)) (now (rights .entry)) (now (ups .entry)) (now (sources .entry))) start (now (field .entry)) (now (raised .entry))) (filmOf head [] (now (diagonals .entry)) (now (rights .entry)) (now (ups .entry)) (now (sources .entry))) start (now (field .entry)) (now (raised .entry))) (decisionOf r) (now (field .exit)) ⌝ }
 {
     let columns = head.columns as usize;
     let cells = raising::rise_count(&field[..], raised, start, columns);

@@ -8,7 +8,7 @@ use borrow.Author.Tests.{eqb-true, eqb-false}
 use lib.Dec.{T, eqb}
 use lib.ListN.{drop}
 use Rattle.model.specs.Refusals.{Check, pass, fail, _orElse_, checkOf}
-use Rattle.model.specs.Fields.{Field, behind, endOf, walk}
+use Rattle.model.specs.Fields.{Field, behind, fieldsEnd, walk}
 use Rattle.model.specs.File.{gauged}
 use Rattle.fields.specs.declared.Walked.{Walked}
 use Rattle.fields.specs.Tags.{fieldFor, testOf, Tries, Room}
@@ -49,7 +49,7 @@ module _ (l : List ℕ) (n t : ℕ) where
     pub high : tag ≤ 5
     pub near : at ≤ (tag - 1) * 130053
     pub tests : walk (gauged n t) l 0 ≡ walk (from n t tag) l at
-    pub end : endOf (gauged n t) 0 ≡ endOf (from n t tag) at
+    pub end : fieldsEnd (gauged n t) 0 ≡ fieldsEnd (from n t tag) at
 
   pub begins : On 1 0
   begins = record { low = omega arith; high = omega arith; near = omega arith; tests = refl; end = refl }
@@ -79,8 +79,8 @@ module _ (l : List ℕ) (n t : ℕ) where
           ∙ ap (λ fs. walk fs l at) (rest .0)
           ∙ ap (λ c. c orElse walk others l after) (sym (W .finds ∙ ap (λ k. testOf f k l at) (sym (rest .1))))
 
-      ends-at : endOf (gauged n t) 0 ≡ endOf others after
-      ends-at = o .end ∙ ap (λ fs. endOf fs at) (rest .0)
+      ends-at : fieldsEnd (gauged n t) 0 ≡ fieldsEnd others after
+      ends-at = o .end ∙ ap (λ fs. fieldsEnd fs at) (rest .0)
 
       -- it passes and is not the last: the walk goes on behind it
       pub goes : ended (checkOf (w .tested)) tag ≡ false → On (tag + 1) (w .next) × (tag < 5)
@@ -94,7 +94,7 @@ module _ (l : List ℕ) (n t : ℕ) where
             high = omega arith;
             near = omega (arith, next, o .near, o .low, size-low tag n t (few .0) (few .1));
             tests = found ∙ ap (λ c. c orElse walk others l after) (p .0) ∙ ap (walk others l) (sym next);
-            end = ends-at ∙ ap (endOf others) (sym next);
+            end = ends-at ∙ ap (fieldsEnd others) (sym next);
           } in
           (on, less)
 
@@ -104,7 +104,7 @@ module _ (l : List ℕ) (n t : ℕ) where
           let none : others ≡ [] = ap (λ k. from n t (k + 1)) (eqb-true tag 5 e) in
           record {
             finds = q ∙ sym (found ∙ (λ i. q i orElse walk (none i) l after));
-            comes = λ p. W .goes-on p ∙ sym (ends-at ∙ ap (λ fs. endOf fs after) none);
+            comes = λ p. W .goes-on p ∙ sym (ends-at ∙ ap (λ fs. fieldsEnd fs after) none);
           }
       stop (fail number place) q e =
           record {
