@@ -5,7 +5,8 @@ use Prim.Native.Nat.{ℕ}
 use lib.IntN.{ℤ}
 use Rattle.model.specs.Gauge.{Gauge}
 use Rattle.model.specs.Result.{Answer, refusalIn, Result, Gives}
-use Rattle.model.specs.FileCalls.{LoadAnswer, Loads, Forms}
+use Rattle.model.specs.FileCalls.{gaugeOf, saveCall, LoadAnswer, Loads, Forms}
+use Rattle.model.specs.declared.Head.{Head}
 use Rattle.told.specs.Refused.{Told}
 use Rattle.tell.specs.Numbers.{SlackTold, MarginTold}
 use Rattle.tell_files.specs.Files.{LoadTold}
@@ -19,6 +20,12 @@ margin-told {m = m} {m′ = m′} {p = p} {n = n} {p′ = p′} e told = subst (
 
 pub leaves : {A : Type 0} {call : Result A} {a : A} {exit : List ℕ} {Tells : A → Type 0} → Gives call a exit → Tells a → Leaves call Tells exit
 leaves {Tells = Tells} gave told = record { told = subst Tells (gave .answer-is) told; lent-is = gave .lent-is }
+
+-- the wedge number that the code hands on is the one that was lent
+pub save-by-wedge :
+    (h : Head) (weights thicknesses out : List ℕ) {w wedge : ℤ} {a : Answer (Unit {0})} {exit : List ℕ} → w ≡ wedge
+    → Gives (saveCall (gaugeOf h weights thicknesses w) out) a exit → Gives (saveCall (gaugeOf h weights thicknesses wedge) out) a exit
+save-by-wedge h weights thicknesses out {a = a} {exit = exit} e gave = subst (λ (z : ℤ). Gives (saveCall (gaugeOf h weights thicknesses z) out) a exit) e gave
 
 pub read-told :
     {bytes w t w′ t′ h h′ : List ℕ} {a : Answer LoadAnswer} {z z′ : ℤ} {p n p′ : ℕ} →

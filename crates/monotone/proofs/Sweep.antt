@@ -156,7 +156,8 @@ module _ (F : Rule) (order : ℕ → ℕ) (M : Monotone F) (N : Permutes (F .siz
   came : (b : ℕ) (s : State) → Round F order p s → s .quiets < F .size → s .visits + b ≡ a → Outcome F p a (sweep F order b s)
   unfolding sweep
   came zero s R few e =
-      record { risen = R .risen; spent = omega (arith, R .spent, mul-add (F .size) (s .raises) 1); says = (omega arith, λ l. pos-right (F .size) (s .raises) {a = 0} (omega (arith, R .spent))) }
+      let stops : Says F p a stopped s = (omega arith, λ l. pos-right (F .size) (s .raises) {a = 0} (omega (arith, R .spent))) in
+      record { risen = R .risen; spent = omega (arith, R .spent, mul-add (F .size) (s .raises) 1); says = stops }
   came (suc b) s R few e = came-turn b s R few e (sweep F order b) (came b) (relaxOf F order s) (see _ _ _)
 
   pub sweep-outcome : Bounded F p → Outcome F p a (sweep F order a (begin p))

@@ -16,7 +16,7 @@ use Rattle.model.specs.Estimate.{estimate}
 use Rattle.model.specs.Run.{Readied, cellsOf, proposeOwn, proposeLines, readied}
 use Rattle.model.proofs.Lists.{count-bound}
 use Rattle.model.proofs.Bare.{bare, propose-bare}
-use Rattle.model.proofs.Run.{lines-rise, readied-rises}
+use Rattle.model.proofs.Run.{lines-rise}
 use Rattle.own_proposals.specs.Readies.{from, Readies}
 
 module _ (f : Film) where
@@ -104,7 +104,3 @@ module _ (f : Film) where
   unfolding readied
   ready-on zero on p accepted exit n e R = absurd (n refl)
   ready-on (suc b) on p accepted exit n e R = rw e R
-
-  pub ready-bounded : Accepted f → (budget : ℕ) (on : Bool) (p : List ℕ) (accepted : ℕ) (exit : List ℕ) → Bounded (rule f) p
-      → Readies (readied f budget on p) accepted exit → Bounded (rule f) exit
-  ready-bounded A budget on p accepted exit B R = rw (R .field-is) (readied-rises f A budget on p B .bounded)

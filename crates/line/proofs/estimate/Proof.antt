@@ -52,7 +52,8 @@ enum-told c = search needs
 line-start-requires : tie.Need-line-start-requires
 line-start-requires c κs =
     let R = ready c in
-    (R .line-some, (omega (arith, R .line-low, R .film .limited .sized .rows-low), R .film .limited .sized .columns-low))
+    let S = R .film .limited .sized in
+    (R .line-some, (omega (arith, R .line-low, S .rows-low), omega (arith, S .rows-low, S .columns-low)))
 
 margin-requires : tie.Need-margin-requires
 margin-requires c κs = let e = c .before in (now (start (tests e) .args .sources), ready e .film)

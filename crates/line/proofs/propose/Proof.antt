@@ -50,7 +50,8 @@ enum-told c = search needs
 line-start-requires : tie.Need-line-start-requires
 line-start-requires c κs =
     let R = ready c in
-    (R .line-some, (omega (arith, R .line-low, R .film .limited .sized .rows-low), R .film .limited .sized .columns-low))
+    let S = R .film .limited .sized in
+    (R .line-some, (omega (arith, R .line-low, S .rows-low), omega (arith, S .rows-low, S .columns-low)))
 
 propose-requires : tie.Need-propose-requires
 propose-requires c κs =

@@ -2,6 +2,8 @@
 use mathlib.Core.Path.{refl}
 use native.Mathlib.Omega.{arith}
 use borrow.Author.Needs.{needs}
+use denote.Ref.{now}
+use lib.ListN.{getD}
 use Rattle.monotone.specs.Sweep.{quiet, raise, exceed}
 use Rattle.pointwise.proofs.Relaxation.{is-quiet, is-raise, is-exceed, relaxed-at}
 use Rattle.pointwise.proofs.relax_at.Statement.{statement}
@@ -17,7 +19,9 @@ cast-if1 : tie.Need-cast-if1
 cast-if1 c = omega (arith, c .slice-known .given (c .before .args .at))
 
 returns : tie.Need-returns
-returns c = relaxed-at quiet (is-quiet _ _ _ (c .if1 .taken)) refl refl
+returns c =
+    let a = c .before .before .args in
+    relaxed-at quiet (is-quiet (a .ceiling) (a .target) (getD (now (a .field)) (a .at) 0) (omega (arith, c .if1 .taken))) refl refl
 
 returns-2 : tie.Need-returns-2
 returns-2 c = relaxed-at exceed (is-exceed _ _ _ (c .before .if1 .left) (c .if2 .taken)) refl refl

@@ -37,8 +37,7 @@ part-first-word-end : tie.Need-part-first-word-end Inv-loop μ-loop
 part-first-word-end c = search needs
 
 first-word-requires : tie.Need-first-word-requires Inv-loop μ-loop
-first-word-requires c κs =
-    rw (rest (now (c .before .before .before .before .before .args .file)) (weightsOffset + 2 * c .before .before .loop .i)) (simp length-drop (omega arith))
+first-word-requires c κs = simp (rest, length-drop) (omega arith)
 
 mul-weights : tie.Need-mul-weights Inv-loop μ-loop
 mul-weights c = search needs

@@ -5,7 +5,6 @@ use borrow.Author.Needs.{needs}
 use denote.Ref.{now}
 use Rattle.model.specs.Refusals.{pass, checkOf}
 use Rattle.model.specs.Film.{Film, filmOf}
-use Rattle.own_proposals.proofs.Proposals.{ready-bounded}
 use Rattle.model.specs.Run.{runCheck}
 use Rattle.run.proofs.Calls.{run-tested, run-ready, run-passed, run-refused}
 use Rattle.run.proofs.run.Statement.{statement}
@@ -53,7 +52,7 @@ relaxations-requires c κs =
     let e = r .before .before in
     let a = start (tests e) .args in
     let P = run-ready (film (tests e)) (now (a .field)) (a .order) (passed e) in
-    ((now (a .weights), P .film .limited), ready-bounded (film (tests e)) (P .film) (a .budget) (a .proposals) (now (a .field)) _ _ (P .bounded) (r .ready .ensures) .len)
+    ((now (a .weights), P .film .limited), r .ready .kept .1 .1 .1 .1 .1 .1 .0 ∙ P .bounded .len)
 
 enum-known-r : tie.Need-enum-known-r
 enum-known-r c = search needs

@@ -323,7 +323,7 @@ module _ {M : Type 1} (𝓤 : URA M) (H : Heap 𝓤) (A : Atoms 𝓤) (W : Given
       alloc1 ! (λ l₀. alloc1 ! (λ l₁. alloc1 ! (λ l₂. alloc1 ! (λ l₃. alloc1 ! (λ l₄. alloc1 ! (λ l₅. alloc1 ! (λ l₆. alloc1 ! (λ l₇. alloc1 ! (λ l₈. alloc1 ! (λ l₉. alloc0 ! $ params1 ! $
       pass1 ! (init ! 16 refl (shr-slice-lawful 𝓤 H A W (named 0) κ u8 .typed s (v ∷ []) p .0)) $ pass1 ! (init ! 14 refl (tt, record { fits = n-ok })) $ pass1 ! (init ! 12 refl (tt, record { fits = t-ok })) $ pass0 ! $
       -- [_9; …; .. _0; …; the token; what the parameters own]
-      assigns ! (agg ! (and-then ! (load ! (from ! (stop !)) (look ! 16 refl)) (and-then ! (lit ! tt) (no-more !)))) (from ! (stop !)) (init ! 10 refl (typed 0 (lit< tt) p)) $
+      assigns ! (agg ! (and-then ! (load ! (from ! (stop !)) (look ! 16 refl)) (and-then ! (lit ! tt) (no-more !)))) (from ! (stop !)) (init ! 10 refl (typed _ (lit< tt) p)) $
       assigns ! (of-opd ! (lit ! tt)) (from ! (stop !)) (init ! 8 refl (tt, record { fits = lit< tt })) $
       move ! (21 ∷ []) $ fsplit ! $ move ! (1 ∷ []) $ drop ! $ move ! (21 ∷ []) $ first ! $ blocks ! $
       loops ! 𝓣 (Nearer l n t) (Nearer-wf l n t) (At 𝓣 known-viewed known-ends known-moved p l₀ l₁ l₂ l₃ l₄ l₅ l₆ l₇ l₈ l₉) (turns 𝓣 known-viewed known-ends known-moved p l₀ l₁ l₂ l₃ l₄ l₅ l₆ l₇ l₈ l₉) (record { tag = 1; at = 0; on = begins l n t; fits = lit< tt })))))))))))

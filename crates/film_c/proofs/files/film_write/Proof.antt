@@ -1,7 +1,8 @@
 -- `film_c::film_write` meets its contract: the public call promises its answer for the head that `head_of` makes, and `tell_files::write` tells it.
 use mir.Facts.{toZ-ofZ}
 use borrow.Author.Needs.{needs}
-use Rattle.archive.proofs.Told.{leaves}
+use denote.Ref.{now}
+use Rattle.archive.proofs.Told.{leaves, save-by-wedge}
 use Rattle.film_c.proofs.files.film_write.Statement.{statement}
 use Rattle.film_c.proofs.files.film_write.Tie as tie
 
@@ -21,7 +22,10 @@ returns : tie.Need-returns
 returns c =
     let called = c .before .before .before .before in
     let made = called .before .before in
-    leaves (rw (made .head-of .ensures, toZ-ofZ (made .before .before .before .before .fits .wedge)) at (called .write .ensures)) (c .write2 .ensures)
+    let s = made .before .before .before .before in
+    let a = s .args in
+    let saved = save-by-wedge (made .head-of .result) (now (a .weights)) (now (a .thicknesses)) (now (a .out)) (toZ-ofZ (s .fits .wedge)) (called .write .ensures) in
+    leaves (rw (made .head-of .ensures) at saved) (c .write2 .ensures)
 
 pub film-write-spec : {M : Type 1} → statement M
 film-write-spec = tie.close (tie.spec head-of-requires write-requires write-requires-2 same-length returns)
