@@ -102,7 +102,7 @@ pub fn estimate(
 ) -> Estimated
     ensures { λ r. ⌜ Gives (estimateCall (filmOf head (now (weights .entry)) (now (diagonals .entry)) (now (rights .entry)) (now (ups .entry)) (now (sources .entry))) line (now (field .entry)) (now (proposal .entry))) (estimateAnswerOf r) (now (proposal .exit)) ⌝ }
 {
-    let place = refusals::line_test(head, line);
+    let tested = refusals::line_test(head, line);
     let room = proposal.len() == head.columns as usize;
     match checks::field_tests(
         head,
@@ -114,7 +114,7 @@ pub fn estimate(
         field,
         room,
         Tested::Fine,
-        place,
+        tested,
     ) {
         Tested::Fine => {
             let first = proposal::line_start(head.columns, line);
