@@ -1,5 +1,19 @@
-// What the calls for C promise, and demand 3 of them: no code. A crate of its own below `film_c`, so that an edit of what is promised does not
-// check the ten exported functions anew.
+// What the calls for C promise, and demand 3 of them; and the head that their caller lends. A crate of its own below `film_c`, so that an edit of
+// what is promised does not check the ten exported functions anew. Internal: `film_c` uses it.
 //
 // specs/Lent has the promises that stand in the `ensures` of `film_c` beside those of crates `told`, `tell` and `tell_files`. proofs/Demand leads from
 // them to the records that demand 3 is stated of (crate `model`: Session, Demand): it holds of every list of `film_run` and `film_propose`.
+ghost use mathlib.Core.Path.{_≡_};
+ghost use Rattle.archive.specs.Lent.{lentHead};
+use model::Head;
+
+// The head that a caller lends: rows, columns, ceiling. In C it is `film_head`, a struct of these numbers alone, which is laid out as the array.
+pub fn head_of(head: &[u32; 3]) -> Head
+    ensures { λ r. ⌜ r ≡ lentHead (now (head .entry)) ⌝ }
+{
+    Head {
+        rows: head[0],
+        columns: head[1],
+        ceiling: head[2],
+    }
+}

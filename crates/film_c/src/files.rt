@@ -48,7 +48,7 @@ pub extern "C" fn film_write(
 ) -> u32
     ensures { λ r. ⌜ Leaves (saveCall (gaugeOf (lentHead (now (head .entry))) (now (weights .entry)) (now (thicknesses .entry)) wedge) (now (out .entry))) (λ a. Told (refusalIn a) (now (place .entry)) r (now (place .exit))) (now (out .exit)) ⌝ }
 {
-    let head = crate::head_of(head);
+    let head = archive::head_of(head);
     let answer = file::write(head, weights, thicknesses, wedge, out);
     tell_files::write(answer, place)
 }
@@ -68,7 +68,7 @@ pub extern "C" fn film_form(
 ) -> u32
     ensures { λ r. ⌜ FormTold (gaugeOf (lentHead (now (head .entry))) (now (weights .entry)) (now (thicknesses .entry)) wedge) (now (diagonals .entry)) (now (rights .entry)) (now (ups .entry)) (now (sources .entry)) (now (place .entry)) r (now (diagonals .exit)) (now (rights .exit)) (now (ups .exit)) (now (sources .exit)) (now (place .exit)) ⌝ }
 {
-    let head = crate::head_of(head);
+    let head = archive::head_of(head);
     let answer = coefficients::form(
         head,
         weights,

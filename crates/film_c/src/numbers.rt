@@ -26,7 +26,7 @@ pub extern "C" fn film_slack(
 ) -> u32
     ensures { λ r. ⌜ SlackTold (slackCall (filmOf (lentHead (now (head .entry))) (now (weights .entry)) (now (diagonals .entry)) (now (rights .entry)) (now (ups .entry)) (now (sources .entry))) (now (field .entry)) at) (now (slack .entry)) (now (place .entry)) r (now (slack .exit)) (now (place .exit)) ⌝ }
 {
-    let head = crate::head_of(head);
+    let head = archive::head_of(head);
     let answer = problem::slack(head, weights, diagonals, rights, ups, sources, field, at);
     tell::slack(answer, slack, place)
 }
@@ -45,7 +45,7 @@ pub extern "C" fn film_margin(
 ) -> u32
     ensures { λ r. ⌜ MarginTold (marginCall (filmOf (lentHead (now (head .entry))) (now (weights .entry)) (now (diagonals .entry)) (now (rights .entry)) (now (ups .entry)) (now (sources .entry)))) (now (margin .entry)) (now (place .entry)) r (now (margin .exit)) (now (place .exit)) ⌝ }
 {
-    let head = crate::head_of(head);
+    let head = archive::head_of(head);
     let answer = line::margin(head, weights, diagonals, rights, ups, sources);
     tell::margin(answer, margin, place)
 }
@@ -69,7 +69,7 @@ pub extern "C" fn film_run(
 ) -> u32
     ensures { λ r. ⌜ Leaves (runCall (filmOf (lentHead (now (head .entry))) (now (weights .entry)) (now (diagonals .entry)) (now (rights .entry)) (now (ups .entry)) (now (sources .entry))) budget order proposals (now (field .entry))) (λ a. RunTold a (now (result .entry)) (now (cell .entry)) (now (place .entry)) r (now (result .exit)) (now (cell .exit)) (now (place .exit))) (now (field .exit)) ⌝ }
 {
-    let head = crate::head_of(head);
+    let head = archive::head_of(head);
     let answer = run::run(
         head,
         weights,
@@ -101,7 +101,7 @@ pub extern "C" fn film_relax(
 ) -> u32
     ensures { λ r. ⌜ Leaves (relaxCall (filmOf (lentHead (now (head .entry))) (now (weights .entry)) (now (diagonals .entry)) (now (rights .entry)) (now (ups .entry)) (now (sources .entry))) (now (field .entry)) at) (λ a. RelaxTold a (now (result .entry)) (now (place .entry)) r (now (result .exit)) (now (place .exit))) (now (field .exit)) ⌝ }
 {
-    let head = crate::head_of(head);
+    let head = archive::head_of(head);
     let answer = problem::relax(head, weights, diagonals, rights, ups, sources, field, at);
     tell::relax(answer, result, place)
 }
@@ -123,7 +123,7 @@ pub extern "C" fn film_propose(
 ) -> u32
     ensures { λ r. ⌜ Leaves (proposeCall (filmOf (lentHead (now (head .entry))) (now (weights .entry)) (now (diagonals .entry)) (now (rights .entry)) (now (ups .entry)) (now (sources .entry))) line (now (proposal .entry)) (now (field .entry))) (λ a. ProposeTold a (now (result .entry)) (now (place .entry)) r (now (result .exit)) (now (place .exit))) (now (field .exit)) ⌝ }
 {
-    let head = crate::head_of(head);
+    let head = archive::head_of(head);
     let answer = line::propose(
         head,
         weights,
@@ -154,7 +154,7 @@ pub extern "C" fn film_estimate(
 ) -> u32
     ensures { λ r. ⌜ Leaves (estimateCall (filmOf (lentHead (now (head .entry))) (now (weights .entry)) (now (diagonals .entry)) (now (rights .entry)) (now (ups .entry)) (now (sources .entry))) line (now (field .entry)) (now (proposal .entry))) (λ a. Told (refusalIn a) (now (place .entry)) r (now (place .exit))) (now (proposal .exit)) ⌝ }
 {
-    let head = crate::head_of(head);
+    let head = archive::head_of(head);
     let answer = line::estimate(
         head,
         weights,
