@@ -37,6 +37,7 @@ abbrev pub gaugeFits : Gauge → Bool
 gaugeFits g =
     eqb (length (g .weights)) (cells (g .rows) (g .columns)) && eqb (length (g .thicknesses)) (ringed (g .rows) (g .columns))
 
+-- forming and writing answer nothing but that they have written
 abbrev pub formAnswerOf : Formed → Answer (Unit {0})
 formAnswerOf formeds.Written = answered tt
 formAnswerOf (formeds.Refused r) = refusal r
@@ -78,6 +79,7 @@ abbrev pub loadAnswerOf : Loaded → Answer LoadAnswer
 loadAnswerOf (loadeds.Film h wedge) = answered (film h wedge)
 loadAnswerOf (loadeds.Refused r) = refusal r
 
+-- what is answered of a film's numbers: shape, ceiling and wedge
 abbrev pub headOf : Gauge → Head
 headOf g = record { rows = g .rows; columns = g .columns; ceiling = g .ceiling }
 

@@ -35,7 +35,7 @@ relaxAnswerOf (relaxed.Raised pressure) = answered (raised pressure)
 relaxAnswerOf (relaxed.Over cell) = answered (over cell)
 relaxAnswerOf (relaxed.Refused r) = refusal r
 
--- what a relaxation of cell i leaves, by what it finds
+-- a relaxation of cell i of the field p, by what it finds
 abbrev pub relaxedTo : theory.Relaxation → ℕ → List ℕ → ℕ → Result RelaxAnswer
 relaxedTo theory.quiet required p i = record { answer = quiet; lent = p }
 relaxedTo theory.raise required p i = record { answer = raised required; lent = set p i required }

@@ -33,6 +33,7 @@ pub record Readied : Type 0 where
   pub field : List ℕ
   pub accepted : ℕ
 
+-- how many cells a proposal raised, and the field that it leaves with these counted in
 abbrev pub cellsOf : ProposalAnswer → ℕ
 cellsOf (ProposalAnswer.accepted cells) = cells
 cellsOf ProposalAnswer.rejected = 0
@@ -67,7 +68,7 @@ runAnswerOf (answers.Stopped c) = answered (stopped c)
 runAnswerOf (answers.Over cell c) = answered (over cell c)
 runAnswerOf (answers.Refused r) = refusal r
 
--- and counts
+-- what it has counted: relaxations, raises that they made, and cells raised by proposals
 abbrev pub countedIn : RunAnswer → Counts
 countedIn (done c) = c
 countedIn (stopped c) = c
