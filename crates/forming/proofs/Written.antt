@@ -10,7 +10,7 @@ use Rattle.model.specs.Gauge.{Gauge}
 use Rattle.model.specs.Coefficients.{formedDiagonal, formedRight, formedUp, formedSource, byCell}
 use Rattle.grid.proofs.Fill.{Filled, fill-more}
 use Rattle.forming.specs.Cell.{coefficientsAt, Room, FormedTo}
-use Rattle.forming.specs.declared.Coefficients.{Coefficients}
+use Rattle.stencil.specs.declared.Coefficients.{Coefficients}
 
 -- a number of cell (r, c) stands at its index
 pub by-cell : {A : Type 0} (g : Gauge) (number : ℕ → ℕ → A) (r c : ℕ) → 1 ≤ r → c < g .columns

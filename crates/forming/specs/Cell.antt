@@ -1,44 +1,18 @@
--- The coefficients of one cell, from the thicknesses of the cell and of the four beside it; and the lists that they fill.
+-- The thicknesses around a cell, its coefficients by row and column, and the lists that they fill.
 use mathlib.Core.Path.{_≡_}
-use mathlib.Core.Bool.{Bool, cond}
 use mathlib.Core.List.{List}
 use Prim.Native.Nat.{ℕ, _+_, _-_, _≤_}
 use lib.Dec.{ltb}
-use lib.IntN.{ℤ, pos, _-ℤ_, _*ℤ_}
+use lib.IntN.{ℤ}
 use lib.ListN.{length, take}
 use Rattle.model.specs.Limits.{sideLimit}
 use Rattle.model.specs.Lists.{tabulate}
 use Rattle.model.specs.Gauge.{Gauge, thicknessAt}
-use Rattle.model.specs.Coefficients.{linkOf, formedDiagonal, formedRight, formedUp, formedSource, byCell}
+use Rattle.model.specs.Coefficients.{formedDiagonal, formedRight, formedUp, formedSource, byCell}
 use Rattle.model.specs.File.{cells, ringed}
-use Rattle.forming.specs.declared.Around.{Around}
-use Rattle.forming.specs.declared.Links.{Links}
-use Rattle.forming.specs.declared.Coefficients.{Coefficients}
-
--- wedge × (thickness of the next column − thickness of the one before)
-abbrev pub sourceOf : ℤ → ℕ → ℕ → ℤ
-sourceOf wedge next last = wedge *ℤ (pos next -ℤ pos last)
-
--- the four links, and their sum
-abbrev pub linksOf : Around → Links
-linksOf a =
-    record {
-      left = linkOf (a .own) (a .left);
-      right = linkOf (a .own) (a .right);
-      down = linkOf (a .own) (a .down);
-      up = linkOf (a .own) (a .up);
-      sum = linkOf (a .own) (a .left) + linkOf (a .own) (a .right) + linkOf (a .own) (a .down) + linkOf (a .own) (a .up);
-    }
-
--- a link is counted if it stays in the grid
-abbrev pub coefficientsOf : Around → ℤ → Bool → Bool → Coefficients
-coefficientsOf a wedge inRow inColumn =
-    record {
-      diagonal = linksOf a .sum;
-      right = cond inRow (linksOf a .right) 0;
-      up = cond inColumn (linksOf a .up) 0;
-      source = sourceOf wedge (a .right) (a .left);
-    }
+use Rattle.stencil.specs.Cell.{coefficientsOf}
+use Rattle.stencil.specs.declared.Around.{Around}
+use Rattle.stencil.specs.declared.Coefficients.{Coefficients}
 
 -- the thicknesses at and around the cell in row r and column c, which run from 1
 abbrev pub aroundOf : Gauge → ℕ → ℕ → Around

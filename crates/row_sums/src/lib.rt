@@ -23,7 +23,7 @@ fn not_dominant(head: Head, weights: &[u16], thicknesses: &[u8], row: usize, col
     requires { ⌜ (1 ≤ row) × (row ≤ head .rows) × (1 ≤ column) × (column ≤ head .columns) ⌝ }
     ensures { λ r. ⌜ r ≡ notDominant (formed (gaugeOf head (now (weights .entry)) (now (thicknesses .entry)) (pos 0))) ((row - 1) * head .columns + (column - 1)) ⌝ }
 {
-    let links = forming::links_of(forming::around_at(head, thicknesses, row, column));
+    let links = stencil::links_of(forming::around_at(head, thicknesses, row, column));
     let pull = shape::weights::pull(
         head,
         weights,

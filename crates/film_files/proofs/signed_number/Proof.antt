@@ -1,6 +1,6 @@
 -- `film_files::signed_number` meets its contract: a number of 32 bits fits 64.
 use borrow.Author.Needs.{needs}
-use Rattle.forming.proofs.Cell.{widens}
+use Rattle.stencil.proofs.Fits.{widens}
 use Rattle.film_files.proofs.signed_number.Statement.{statement}
 use Rattle.film_files.proofs.signed_number.Tie as tie
 

@@ -4,8 +4,8 @@ use lib.Dec.{ltb}
 use lib.IntN.{ℤ}
 use mir.Facts.{toZ-ofZ}
 use borrow.Author.Needs.{needs}
-use Rattle.forming.specs.Cell.{coefficientsOf}
-use Rattle.forming.specs.declared.Around.{Around}
+use Rattle.stencil.specs.Cell.{coefficientsOf}
+use Rattle.stencil.specs.declared.Around.{Around}
 use Rattle.forming.proofs.coefficients_at.Statement.{statement}
 use Rattle.forming.proofs.coefficients_at.Tie as tie
 

@@ -6,7 +6,7 @@ use lib.Dec.{ltb}
 use lib.IntN.{ℤ, pos, negsuc, natAbs}
 use Rattle.model.specs.Limits.{wedgeLimit}
 use Rattle.model.specs.Integers.{positivePart, negativePart}
-use Rattle.forming.proofs.Cell.{widens, widened}
+use Rattle.stencil.proofs.Fits.{widens, widened}
 use Rattle.gauge.proofs.far_wedge.Statement.{statement}
 use Rattle.gauge.proofs.far_wedge.Tie as tie
 

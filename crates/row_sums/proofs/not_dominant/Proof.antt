@@ -9,7 +9,7 @@ use Rattle.model.specs.Coefficients.{formed}
 use Rattle.model.specs.FileCalls.{gaugeOf}
 use Rattle.model.proofs.Sides.{Inside, row-sum}
 use Rattle.model.proofs.Reynolds.{formed-linked, formed-diagonal}
-use Rattle.forming.proofs.Cell.{link-low}
+use Rattle.stencil.proofs.Fits.{link-low}
 use Rattle.row_sums.proofs.not_dominant.Statement.{statement}
 use Rattle.row_sums.proofs.not_dominant.Tie as tie
 

@@ -1,8 +1,8 @@
--- `forming::coefficients_of` meets its contract: each number is what its function promises, and wedge and source come back from their bits unchanged.
+-- `stencil::coefficients_of` meets its contract: each number is what its function promises, and wedge and source come back from their bits unchanged.
 use mir.Facts.{toZ-ofZ}
 use borrow.Author.Needs.{needs, sfits-of}
-use Rattle.forming.proofs.coefficients_of.Statement.{statement}
-use Rattle.forming.proofs.coefficients_of.Tie as tie
+use Rattle.stencil.proofs.coefficients_of.Statement.{statement}
+use Rattle.stencil.proofs.coefficients_of.Tie as tie
 
 links-of-requires : tie.Need-links-of-requires
 links-of-requires c κs = search needs

@@ -1,10 +1,10 @@
--- `forming::links_of` meets its contract: each link is at most the cube of 510 (`link-low`), so that the sum of the four fits 32 bits.
+-- `stencil::links_of` meets its contract: each link is at most the cube of 510 (`link-low`), so that the sum of the four fits 32 bits.
 use Prim.Native.Nat.{_+_, _*_, _≤_}
 use native.Mathlib.Omega.{arith}
 use borrow.Author.Needs.{needs}
-use Rattle.forming.proofs.Cell.{link-low}
-use Rattle.forming.proofs.links_of.Statement.{statement}
-use Rattle.forming.proofs.links_of.Tie as tie
+use Rattle.stencil.proofs.Fits.{link-low}
+use Rattle.stencil.proofs.links_of.Statement.{statement}
+use Rattle.stencil.proofs.links_of.Tie as tie
 
 -- the four links leave their sum room
 sums : (c : tie.After-link4)

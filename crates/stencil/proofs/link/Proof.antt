@@ -1,9 +1,9 @@
--- `forming::link` meets its contract: two thicknesses of 8 bits sum to at most 510, whose square and cube fit 32 bits (`square-low`, `link-low`).
+-- `stencil::link` meets its contract: two thicknesses of 8 bits sum to at most 510, whose square and cube fit 32 bits (`square-low`, `link-low`).
 use native.Mathlib.Omega.{arith}
 use borrow.Author.Needs.{needs}
-use Rattle.forming.proofs.Cell.{square-low, link-low}
-use Rattle.forming.proofs.link.Statement.{statement}
-use Rattle.forming.proofs.link.Tie as tie
+use Rattle.stencil.proofs.Fits.{square-low, link-low}
+use Rattle.stencil.proofs.link.Statement.{statement}
+use Rattle.stencil.proofs.link.Tie as tie
 
 add-sum : tie.Need-add-sum
 add-sum c = search needs

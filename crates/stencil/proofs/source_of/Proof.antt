@@ -1,15 +1,15 @@
--- `forming::source_of` meets its contract: a wedge number of 32 bits times a gain of at most 255 either way fits 64 bits (`source-fits`).
+-- `stencil::source_of` meets its contract: a wedge number of 32 bits times a gain of at most 255 either way fits 64 bits (`source-fits`).
 use mathlib.Core.Path.{_≡_, ap₂}
 use native.Mathlib.Omega.{arith}
 use lib.IntN.{ℤ, pos, _-ℤ_, _*ℤ_}
 use mir.Syntax.{w32, w64}
 use mir.Val.{SFits, toZ, ofZ}
 use mir.Facts.{toZ-ofZ, toZ-pos}
-use Rattle.forming.specs.Cell.{sourceOf}
-use Rattle.forming.proofs.Cell.{widens, widened, gain-fits, source-fits}
+use Rattle.stencil.specs.Cell.{sourceOf}
+use Rattle.stencil.proofs.Fits.{widens, widened, gain-fits, source-fits}
 use borrow.Author.Needs.{needs}
-use Rattle.forming.proofs.source_of.Statement.{statement}
-use Rattle.forming.proofs.source_of.Tie as tie
+use Rattle.stencil.proofs.source_of.Statement.{statement}
+use Rattle.stencil.proofs.source_of.Tie as tie
 
 -- the two thicknesses, the gain and the product, as signed numbers
 gain : (c : tie.Start) → toZ w64 (c .args .next) -ℤ toZ w64 (c .args .last) ≡ pos (c .args .next) -ℤ pos (c .args .last)

@@ -1,0 +1,56 @@
+-- A cell's coefficients fit their types.
+use mathlib.Core.Path.{_≡_, _∙_}
+use Prim.Native.Nat.{ℕ, _+_, _*_, _≤_, _<_, _^_}
+use native.Mathlib.Nat.{mul-le-mul}
+use native.Mathlib.Omega.{arith}
+use lib.IntN.{ℤ, pos, negsuc, natAbs, _-ℤ_}
+use lib.Signed.{mag}
+use mir.Syntax.{w32, w64}
+use mir.Val.{SFits, toZ, ofZ}
+use mir.Facts.{toZ-ofZ, sfits-widen}
+use Rattle.model.specs.Coefficients.{linkOf}
+use Rattle.model.proofs.Forming.{abs-mul, abs-sub}
+use Rattle.stencil.specs.Cell.{sourceOf}
+
+-- ---- a wedge number, cast from 32 bits to 64, stays as it is
+
+module _ {z : ℤ} (fits : SFits w32 z) where
+  pub widens : SFits w64 (toZ w32 (ofZ w32 z))
+  widens = rw (toZ-ofZ fits) (sfits-widen tt fits)
+
+  pub widened : toZ w64 (ofZ w64 (toZ w32 (ofZ w32 z))) ≡ z
+  widened = toZ-ofZ widens ∙ toZ-ofZ fits
+
+-- ---- of thicknesses of 8 bits
+
+-- the square and the cube of the sum of two
+module _ (a b : ℕ) (h : a < 256) (k : b < 256) where
+  sum-low : a + b ≤ 510
+  sum-low = omega arith
+
+  pub square-low : (a + b) * (a + b) ≤ 510 * 510
+  square-low = mul-le-mul sum-low sum-low
+
+  pub link-low : linkOf a b ≤ 510 * 510 * 510
+  link-low = mul-le-mul square-low sum-low
+
+-- the source, with a wedge number of 32 bits
+mag-low : (z : ℤ) → mag z ≤ natAbs z
+mag-low (pos n) = omega arith
+mag-low (negsuc n) = omega arith
+
+abs-low : (z : ℤ) → SFits w32 z → natAbs z ≤ 2 ^ 31
+abs-low (pos n) f = omega (arith, f .sfits)
+abs-low (negsuc n) f = omega (arith, f .sfits)
+
+module _ (next last : ℕ) (h : next < 256) (k : last < 256) where
+  gain-low : natAbs (pos next -ℤ pos last) ≤ 255
+  gain-low = abs-sub next last 255 (omega arith) (omega arith)
+
+  pub gain-fits : SFits w64 (pos next -ℤ pos last)
+  gain-fits = record { sfits = omega (arith, mag-low (pos next -ℤ pos last), gain-low) }
+
+  pub source-fits : (wedge : ℤ) → SFits w32 wedge → SFits w64 (sourceOf wedge next last)
+  source-fits wedge f =
+      let m : natAbs wedge * natAbs (pos next -ℤ pos last) ≤ 2 ^ 31 * 255 = mul-le-mul (abs-low wedge f) gain-low in
+      record { sfits = omega (arith, mag-low (sourceOf wedge next last), abs-mul wedge (pos next -ℤ pos last)) }

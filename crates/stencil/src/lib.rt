@@ -1,0 +1,87 @@
+// A cell's links, diagonal and source from its own thickness and the four beside it (the five-point stencil), on plain values. Internal: `forming`
+// makes a film's coefficients of it, and `row_sums` takes a cell's links.
+//
+// Proved: each number is document 01's (crate `model`: Coefficients), and fits its type whatever thicknesses of 8 bits and wedge number of 32 it is made of.
+ghost use mathlib.Core.Path.{_≡_};
+ghost use mathlib.Core.Bool.{cond};
+ghost use Rattle.model.specs.Coefficients.{linkOf};
+ghost use Rattle.stencil.specs.Cell.{linksOf, sourceOf, coefficientsOf};
+
+// The thicknesses of a cell and of the four beside it, those of the boundary ring too.
+pub struct Around {
+    pub own: u8,
+    pub left: u8,
+    pub right: u8,
+    pub down: u8,
+    pub up: u8,
+}
+
+// The links of a cell to the four beside it, those to the ring too, and their sum.
+pub struct Links {
+    pub left: u32,
+    pub right: u32,
+    pub down: u32,
+    pub up: u32,
+    pub sum: u32,
+}
+
+pub struct Coefficients {
+    pub diagonal: u32,
+    pub right: u32,
+    pub up: u32,
+    pub source: i64,
+}
+
+// The link of two cells: the cube of the sum of their thicknesses.
+fn link(a: u8, b: u8) -> u32
+    ensures { λ r. ⌜ r ≡ linkOf a b ⌝ }
+{
+    let sum = (a as u32) + (b as u32);
+    sum * sum * sum
+}
+
+pub fn links_of(around: Around) -> Links
+    ensures { λ r. ⌜ r ≡ linksOf around ⌝ }
+{
+    let left = link(around.own, around.left);
+    let right = link(around.own, around.right);
+    let down = link(around.own, around.down);
+    let up = link(around.own, around.up);
+    Links {
+        left,
+        right,
+        down,
+        up,
+        sum: left + right + down + up,
+    }
+}
+
+// The link, if it stays in the grid; else 0.
+fn link_if(inside: bool, link: u32) -> u32
+    ensures { λ r. ⌜ r ≡ cond inside link 0 ⌝ }
+{
+    if inside {
+        return link;
+    }
+    0
+}
+
+// The wedge number times what the thickness gains from the column before to the next one.
+fn source_of(wedge: i32, next: u8, last: u8) -> i64
+    ensures { λ r. ⌜ r ≡ sourceOf wedge next last ⌝ }
+{
+    (wedge as i64) * ((next as i64) - (last as i64))
+}
+
+// The coefficients of a cell; `in_row` and `in_column` say whether its right and its up link stay in the grid.
+pub fn coefficients_of(around: Around, wedge: i32, in_row: bool, in_column: bool) -> Coefficients
+    ensures { λ r. ⌜ r ≡ coefficientsOf around wedge in_row in_column ⌝ }
+{
+    let links = links_of(around);
+    Coefficients {
+        diagonal: links.sum,
+        right: link_if(in_row, links.right),
+        up: link_if(in_column, links.up),
+        source: source_of(wedge, around.right, around.left),
+    }
+}
