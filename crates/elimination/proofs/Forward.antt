@@ -1,7 +1,7 @@
 -- Forwards along a line: what is handed on and kept of the elimination, step by step, up to the line's end or a broken step, and that a kept
 -- step is recalled.
 use mathlib.Core.Path.{_≡_, refl, sym, ap, _∙_}
-use mathlib.Core.Bool.{Bool, true, false, cond, true≢false}
+use mathlib.Core.Bool.{Bool, true, false, true≢false}
 use mathlib.Core.List.{List, []}
 use Prim.Native.Nat.{ℕ, zero, suc, _+_, _≤_, _<_}
 use native.Mathlib.Nat.{le-antisymm}
@@ -9,15 +9,17 @@ use native.Mathlib.Numerals.{add-one}
 use native.Mathlib.Decide.{decLt}
 use native.Mathlib.Omega.{arith}
 use lib.IntN.{ℤ}
-use lib.Ieee.{Float, nan, lt, ofInt}
+use lib.Ieee.{Float, nan}
 use lib.ListN.{length, getD, set, length-set}
 use lib.Seq.{getD-set-same, getD-set-other}
 use Rattle.model.specs.declared.Head.{Head}
 use Rattle.model.specs.Film.{Film, filmOf, beside, across, neighbours}
-use Rattle.model.specs.Estimate.{floatOf, idle, pivot, broken, pivotIf, eliminate, isBroken, eliminated}
+use Rattle.model.specs.Estimate.{idle, isBroken, eliminated}
 use Rattle.model.specs.Estimate as paper
-use Rattle.elimination.specs.Line.{keptOf, recall, stepAt, Recorded, Eliminated}
-use Rattle.elimination.specs.declared.Preceding.{Preceding}
+use Rattle.chain.specs.declared.Preceding.{Preceding}
+use Rattle.chain.specs.Line.{keptOf, recall}
+use Rattle.chain.proofs.Recall.{unbroken-before, sound, sound-step, recall-is}
+use Rattle.elimination.specs.Line.{stepAt, Recorded, Eliminated}
 
 -- a place that was written, and any other
 module _ {A : Type 0} (l : List A) (n : ℕ) (v d : A) (g : ℕ → A) where
@@ -27,51 +29,6 @@ module _ {A : Type 0} (l : List A) (n : ℕ) (v d : A) (g : ℕ → A) where
         | yes a ↦ getD-set-other l n k v d (λ z. omega arith) ∙ h k a
         | no a ↦ let z : k ≡ n = le-antisymm (omega arith) (omega arith) in rw z (getD-set-same l n v d b ∙ e)
       ]
-
--- a step that is not broken comes from one that is not
-unbroken-before : (active : Bool) (m b k : Float) (e : paper.Elimination) → isBroken (eliminate active m b k e) ≡ false → isBroken e ≡ false
-unfolding eliminate
-unbroken-before active m b k idle h = refl
-unbroken-before active m b k (pivot g h) z = refl
-unbroken-before true m b k broken h = absurd (true≢false h)
-unbroken-before false m b k broken h = absurd (true≢false h)
-
--- a pivot is above 0
-abbrev sound : paper.Elimination → Bool
-sound idle = true
-sound (pivot g h) = lt (floatOf 0) g
-sound broken = true
-
-sound-pivot : (g h : Float) → sound (pivotIf g h) ≡ true
-sound-pivot g h = go (lt (floatOf 0) g) refl
-  where
-    go : (t : Bool) → lt (floatOf 0) g ≡ t → sound (cond t (pivot g h) broken) ≡ true
-    go true e = e
-    go false e = refl
-
-sound-step : (active : Bool) (m b k : Float) (e : paper.Elimination) → sound (eliminate active m b k e) ≡ true
-unfolding eliminate
-sound-step true m b k idle = sound-pivot _ _
-sound-step true m b k (pivot g h) = sound-pivot _ _
-sound-step true m b k broken = refl
-sound-step false m b k idle = refl
-sound-step false m b k (pivot g h) = refl
-sound-step false m b k broken = refl
-
-recall-is : (e : paper.Elimination) → isBroken e ≡ false → sound e ≡ true → recall (keptOf e .g) (keptOf e .h) ≡ e
-unfolding lt ofInt
-recall-is idle u s = refl
-recall-is (pivot g h) u s = rw s
-recall-is broken u s = absurd (true≢false u)
-
--- a cell that is not active yields idle, whatever was handed to it
-pub idle-recalled : (m b k g h : Float) → idle ≡ eliminate false m b k (recall g h)
-unfolding eliminate
-idle-recalled m b k g h = go (lt (floatOf 0) g)
-  where
-    go : (t : Bool) → idle ≡ eliminate false m b k (cond t (pivot g h) idle)
-    go true = refl
-    go false = refl
 
 module _ (f : Film) (p : List ℕ) (start : ℕ) where
   -- what the n-th cell of the row yields, and idle before the first

@@ -1,35 +1,17 @@
--- The elimination along a line as the code answers, hands on and keeps it, and as the next cell and the way back recall it.
+-- The elimination along a line: what its code is lent, the step in a cell of the film, and what is kept of a line.
 use mathlib.Core.Path.{_≡_}
-use mathlib.Core.Bool.{Bool, false, cond}
+use mathlib.Core.Bool.{Bool, false}
 use mathlib.Core.List.{List}
 use Prim.Native.Nat.{ℕ, suc, _-_, _<_}
 use lib.IntN.{ℤ}
-use lib.Ieee.{Float, nan, binary64, lt, ofInt}
+use lib.Ieee.{Float, nan, binary64, ofInt}
 use lib.ListN.{getD}
 use Rattle.monotone.specs.Rule.{Bounded}
 use Rattle.model.specs.declared.Head.{Head}
 use Rattle.model.specs.Film.{Film, filmOf, rule, diagonalAt, rightAt}
 use Rattle.model.specs.Accepted.{Accepted}
 use Rattle.model.specs.Estimate as paper
-use Rattle.elimination.specs.declared.Elimination.{Elimination}
-use Rattle.elimination.specs.declared.Elimination.the-variants as steps
-use Rattle.elimination.specs.declared.Preceding.{Preceding}
-
--- the model's cases of a step
-abbrev pub eliminationOf : Elimination → paper.Elimination
-eliminationOf steps.Idle = paper.idle
-eliminationOf (steps.Pivot g h) = paper.pivot g h
-eliminationOf steps.Broken = paper.broken
-
--- What a step hands to the next cell, and what is kept of it for the way back: pivot and right side, and 0 and 0 where there are none.
-abbrev pub keptOf : paper.Elimination → Preceding
-keptOf paper.idle = record { g = paper.floatOf 0; h = paper.floatOf 0 }
-keptOf (paper.pivot g h) = record { g = g; h = h }
-keptOf paper.broken = record { g = paper.floatOf 0; h = paper.floatOf 0 }
-
--- The step that g and h stand for, of a line that has not broken so far. A pivot is above 0, so that 0 marks a cell that is not active.
-abbrev pub recall : Float → Float → paper.Elimination
-recall g h = cond (lt (paper.floatOf 0) g) (paper.pivot g h) paper.idle
+use Rattle.chain.specs.Line.{keptOf}
 
 -- coefficients of an accepted film, whatever its weights, and a field of it
 pub record Held (head : Head) (diagonals rights ups : List ℕ) (sources : List ℤ) (p : List ℕ) : Type 0 where

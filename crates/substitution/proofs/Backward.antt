@@ -16,7 +16,8 @@ use Rattle.model.specs.Estimate.{floatOf, isBroken, substitute, wholePart, elim
 use Rattle.model.specs.Estimate as paper
 use Rattle.model.proofs.Lists.{tabulate-is, tabulate-at, tabulate-length}
 use Rattle.substitution.specs.Line.{solutionOf, OfLine, Substituted}
-use Rattle.elimination.specs.Line.{recall, Eliminated}
+use Rattle.chain.specs.Line.{recall}
+use Rattle.elimination.specs.Line.{Eliminated}
 use Rattle.substitution.specs.declared.Solution.{Solution}
 use Rattle.substitution.specs.declared.Solution.the-variants as solutions
 use Rattle.elimination.proofs.Forward.{recalled-is}

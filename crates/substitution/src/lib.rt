@@ -6,9 +6,9 @@ ghost use mathlib.Core.Path.{_≡_};
 ghost use Prim.Native.Nat.{_+_, _-_, _*_, _≤_};
 ghost use lib.ListN.{length};
 ghost use Rattle.model.specs.Estimate.{substitute as substituteOf, wholePart};
-ghost use Rattle.elimination.specs.Line.{eliminationOf, recall};
+ghost use Rattle.chain.specs.Line.{eliminationOf, recall};
 ghost use Rattle.substitution.specs.Line.{solutionOf, Substituted};
-use elimination::Elimination;
+use chain::Elimination;
 
 // The solution in a cell, as the way back finds it.
 pub enum Solution {

@@ -11,7 +11,7 @@ use mir.Val.{toZ, ofZ}
 use mir.Facts.{toZ-ofZ}
 use Rattle.model.specs.Estimate.{floatOf}
 use Rattle.cell.proofs.Limits.{source-kept}
-use Rattle.elimination.proofs.RightSide.{side-fits}
+use Rattle.chain.proofs.RightSide.{side-fits}
 use Rattle.elimination.proofs.Chain.{held-loaded, across-found, across-fits, source-fits, step-is}
 use borrow.Author.Needs.{needs, sfits-of}
 use Rattle.elimination.proofs.step.Statement.{statement}

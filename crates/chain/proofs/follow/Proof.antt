@@ -1,8 +1,8 @@
--- `elimination::follow` meets its contract: its two floats are those of the model's step from a pivot, operation by operation, and `pivot_if` decides on them.
+-- `chain::follow` meets its contract: its two floats are those of the model's step from a pivot, operation by operation, and `pivot_if` decides on them.
 use Rattle.model.specs.Estimate.{eliminate}
 use borrow.Author.Needs.{needs}
-use Rattle.elimination.proofs.follow.Statement.{statement}
-use Rattle.elimination.proofs.follow.Tie as tie
+use Rattle.chain.proofs.follow.Statement.{statement}
+use Rattle.chain.proofs.follow.Tie as tie
 
 pivot-if-requires : tie.Need-pivot-if-requires
 pivot-if-requires c κs = search needs

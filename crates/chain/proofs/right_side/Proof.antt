@@ -1,4 +1,4 @@
--- `elimination::right_side` meets its contract: −source + across is (across + negativePart) − positivePart of the source (`side-split`), and the limits leave both terms room.
+-- `chain::right_side` meets its contract: −source + across is (across + negativePart) − positivePart of the source (`side-split`), and the limits leave both terms room.
 use mathlib.Core.Path.{_≡_, sym, ap, ap₂, _∙_}
 use Prim.Native.Nat.{ℕ, _+_}
 use native.Mathlib.Omega.{arith}
@@ -6,10 +6,10 @@ use lib.IntN.{subℕ}
 use mir.Facts.{toZ-ofZ}
 use Rattle.model.specs.Integers.{positivePart, negativePart}
 use Rattle.model.proofs.Integers.{positive-low, negative-low}
-use Rattle.elimination.proofs.RightSide.{side-split}
+use Rattle.chain.proofs.RightSide.{side-split}
 use borrow.Author.Needs.{needs, sfits-of}
-use Rattle.elimination.proofs.right_side.Statement.{statement}
-use Rattle.elimination.proofs.right_side.Tie as tie
+use Rattle.chain.proofs.right_side.Statement.{statement}
+use Rattle.chain.proofs.right_side.Tie as tie
 
 negative-is : (c : tie.After-negative-part) → c .negative-part .result ≡ negativePart (c .before .args .source)
 negative-is c = c .negative-part .ensures ∙ ap negativePart (toZ-ofZ (c .before .fits .source))

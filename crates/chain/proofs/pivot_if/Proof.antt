@@ -1,8 +1,8 @@
--- `elimination::pivot_if` meets its contract: `float::positive` makes the test of the model's `pivotIf`, and each branch is the case of its answer.
+-- `chain::pivot_if` meets its contract: `float::positive` makes the test of the model's `pivotIf`, and each branch is the case of its answer.
 use mathlib.Core.Path.{sym, _∙_}
 use borrow.Author.Needs.{needs}
-use Rattle.elimination.proofs.pivot_if.Statement.{statement}
-use Rattle.elimination.proofs.pivot_if.Tie as tie
+use Rattle.chain.proofs.pivot_if.Statement.{statement}
+use Rattle.chain.proofs.pivot_if.Tie as tie
 
 positive-requires : tie.Need-positive-requires
 positive-requires c κs = search needs

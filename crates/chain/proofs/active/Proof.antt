@@ -1,4 +1,4 @@
--- `elimination::active` meets its contract: a slack fits its 64 bits, so its comparison with 0 says whether it is negative (`below-zero`).
+-- `chain::active` meets its contract: a slack fits its 64 bits, so its comparison with 0 says whether it is negative (`below-zero`).
 use mathlib.Core.Path.{_≡_, refl}
 use Prim.Native.Nat.{zero-le}
 use borrow.Author.Tests.{le-ltb}
@@ -9,8 +9,8 @@ use mir.Val.{SFits}
 use mir.Facts.{toZ-ofZ}
 use Rattle.model.specs.Integers.{negative}
 use borrow.Author.Needs.{needs, sfits-of}
-use Rattle.elimination.proofs.active.Statement.{statement}
-use Rattle.elimination.proofs.active.Tie as tie
+use Rattle.chain.proofs.active.Statement.{statement}
+use Rattle.chain.proofs.active.Tie as tie
 
 below-zero : (z : ℤ) → ltZ z (pos 0) ≡ negative z
 below-zero (pos n) = le-ltb n 0 zero-le

@@ -1,11 +1,11 @@
--- `elimination::eliminate` meets its contract: `float::positive` is the test by which `recall` knows a pivot, and each branch is the case of the
+-- `chain::eliminate` meets its contract: `float::positive` is the test by which `recall` knows a pivot, and each branch is the case of the
 -- model's step; a cell that is not active yields idle, whatever precedes it (`idle-recalled`).
 use mathlib.Core.Path.{sym, _∙_}
 use Rattle.model.specs.Estimate.{eliminate}
-use Rattle.elimination.proofs.Forward.{idle-recalled}
+use Rattle.chain.proofs.Recall.{idle-recalled}
 use borrow.Author.Needs.{needs}
-use Rattle.elimination.proofs.eliminate.Statement.{statement}
-use Rattle.elimination.proofs.eliminate.Tie as tie
+use Rattle.chain.proofs.eliminate.Statement.{statement}
+use Rattle.chain.proofs.eliminate.Tie as tie
 
 positive-requires : tie.Need-positive-requires
 positive-requires c κs = search needs

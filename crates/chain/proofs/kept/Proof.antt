@@ -1,8 +1,8 @@
--- `elimination::kept` meets its contract: the literal 0.0 and the whole number 0 are one float.
+-- `chain::kept` meets its contract: the literal 0.0 and the whole number 0 are one float.
 use lib.Ieee.{ofBits, ofInt}
 use borrow.Author.Needs.{needs}
-use Rattle.elimination.proofs.kept.Statement.{statement}
-use Rattle.elimination.proofs.kept.Tie as tie
+use Rattle.chain.proofs.kept.Statement.{statement}
+use Rattle.chain.proofs.kept.Tie as tie
 
 enum-told : tie.Need-enum-told
 enum-told c = search needs
