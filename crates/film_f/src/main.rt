@@ -66,7 +66,15 @@ fn slack(answer: Slack) {
     }
 }
 
-// Film F's shape, weights, diagonals and links: 1 row, 2 columns, weights 1 1, diagonals 206 51, link 27.
+// Film F: 1 row, 2 columns, weights 1 1, diagonals 206 51, link 27.
+const WEIGHTS: [u16; 2] = [1, 1];
+
+const DIAGONALS: [u32; 2] = [206, 51];
+
+const RIGHTS: [u32; 2] = [27, 0];
+
+const UPS: [u32; 2] = [0, 0];
+
 fn head(ceiling: u32) -> Head {
     Head {
         rows: 1,
@@ -88,18 +96,18 @@ fn pressure(x: u32) {
     spaced(x as u64);
 }
 
+fn slack_on(h: Head, sources: &[i64], field: &[u32], at: usize) {
+    slack(problem::slack(h, &WEIGHTS, &DIAGONALS, &RIGHTS, &UPS, sources, field, at));
+}
+
 // A run from a field: the answer, the field that it leaves and the two slacks.
 fn play_on(h: Head, sources: &[i64], field: &mut [u32], budget: u32, order: u32, proposals: bool) {
-    let weights = [1u16, 1];
-    let diagonals = [206u32, 51];
-    let rights = [27u32, 0];
-    let ups = [0u32, 0];
     ran(run::run(
         h,
-        &weights,
-        &diagonals,
-        &rights,
-        &ups,
+        &WEIGHTS,
+        &DIAGONALS,
+        &RIGHTS,
+        &UPS,
         sources,
         field,
         budget,
@@ -109,26 +117,8 @@ fn play_on(h: Head, sources: &[i64], field: &mut [u32], budget: u32, order: u32,
     text(b" :");
     numbers(&field[..]);
     text(b" :");
-    slack(problem::slack(
-        h,
-        &weights,
-        &diagonals,
-        &rights,
-        &ups,
-        sources,
-        &field[..],
-        0,
-    ));
-    slack(problem::slack(
-        h,
-        &weights,
-        &diagonals,
-        &rights,
-        &ups,
-        sources,
-        &field[..],
-        1,
-    ));
+    slack_on(h, sources, &field[..], 0);
+    slack_on(h, sources, &field[..], 1);
     text(b"\n");
 }
 
@@ -178,47 +168,56 @@ fn margin(answer: Margin) {
     }
 }
 
-// The margin, the estimate of the row from the field, its proposal, and the relaxation of the first cell.
-fn steps_on(h: Head, sources: &[i64], field: &mut [u32], proposal: &mut [u32]) {
-    let weights = [1u16, 1];
-    let diagonals = [206u32, 51];
-    let rights = [27u32, 0];
-    let ups = [0u32, 0];
+fn margin_on(h: Head, sources: &[i64]) {
     text(b"MARGIN");
-    margin(line::margin(h, &weights, &diagonals, &rights, &ups, sources));
+    margin(line::margin(h, &WEIGHTS, &DIAGONALS, &RIGHTS, &UPS, sources));
+}
+
+fn estimate_on(h: Head, sources: &[i64], field: &[u32], proposal: &mut [u32]) {
     line::estimate(
         h,
-        &weights,
-        &diagonals,
-        &rights,
-        &ups,
+        &WEIGHTS,
+        &DIAGONALS,
+        &RIGHTS,
+        &UPS,
         sources,
-        &field[..],
+        field,
         1,
         proposal,
     );
     text(b" OFFER");
     numbers(&proposal[..]);
+}
+
+fn propose_on(h: Head, sources: &[i64], field: &mut [u32], proposal: &[u32]) {
     proposed(line::propose(
         h,
-        &weights,
-        &diagonals,
-        &rights,
-        &ups,
+        &WEIGHTS,
+        &DIAGONALS,
+        &RIGHTS,
+        &UPS,
         sources,
         field,
         1,
-        &proposal[..],
+        proposal,
     ));
-    relaxed(problem::relax(h, &weights, &diagonals, &rights, &ups, sources, field, 0));
-    text(b"\n");
 }
 
+fn relax_on(h: Head, sources: &[i64], field: &mut [u32]) {
+    relaxed(problem::relax(h, &WEIGHTS, &DIAGONALS, &RIGHTS, &UPS, sources, field, 0));
+}
+
+// The margin, the estimate of the row from the field, its proposal, and the relaxation of the first cell.
 fn steps(ceiling: u32, a: i64, b: i64) {
+    let h = head(ceiling);
     let sources = [a, b];
     let mut field = [0u32, 0];
     let mut proposal = [0u32, 0];
-    steps_on(head(ceiling), &sources, &mut field, &mut proposal);
+    margin_on(h, &sources);
+    estimate_on(h, &sources, &field, &mut proposal);
+    propose_on(h, &sources, &mut field, &proposal);
+    relax_on(h, &sources, &mut field);
+    text(b"\n");
 }
 
 fn main() {
