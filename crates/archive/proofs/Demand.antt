@@ -6,22 +6,22 @@ use mathlib.Core.List.{List}
 use Prim.Native.Nat.{ℕ, _*_}
 use native.Mathlib.Omega.{arith}
 use lib.IntN.{ℤ}
-use lib.ListN.{length, take}
-use Rattle.model.specs.Refusals.{Check, pass, fail}
+use lib.ListN.{length}
+use Rattle.model.specs.Refusals.{Check, pass, fail, Numbered}
 use Rattle.model.specs.Result.{Answer, answered, answerBy, refusalIn}
-use Rattle.model.specs.Film.{Film, filmOf}
+use Rattle.model.specs.Film.{Film}
 use Rattle.model.specs.File.{gaugeIn, Bytes}
 use Rattle.model.specs.FileCalls.{LoadAnswer, film, loadAnswer, loadCheck, Loads, used}
 use Rattle.model.specs.Proposal.{ProposalAnswer, propose, lineStart, rowCheck, proposeCall}
 use Rattle.model.specs.Run.{RunAnswer, run, runCheck, runCall}
 use Rattle.model.specs.Demand.{ran, proposed, Kept, Claimed}
 use Rattle.model.specs.Session.{Session}
-use Rattle.model.proofs.Numbered.{Numbered, run-numbered, row-numbered, load-numbered}
+use Rattle.model.proofs.Numbered.{run-numbered, row-numbered, load-numbered}
 use Rattle.model.proofs.Session.{demand-3-calls}
 use Rattle.told.specs.Refused.{numberIn}
 use Rattle.tell.specs.Numbers.{runNumbers, RunTold, proposeNumbers, ProposeTold}
 use Rattle.tell_files.specs.Files.{LoadTold}
-use Rattle.archive.specs.Lent.{lentHead, Leaves, readAnswer, ReadTold, FormTold}
+use Rattle.archive.specs.Lent.{lentHead, lentFilm, Leaves, readAnswer, ReadTold, FormTold}
 
 -- a refusal's number is not 0, so that 0 is returned just where a call answered
 answered-0 : {A : Type 0} (tests : Check) (a : A) → Numbered tests → 0 ≡ numberIn (refusalIn (answerBy tests a)) → answerBy tests a ≡ answered a
@@ -77,11 +77,7 @@ module _ {bytes weights thicknesses head weights′ thicknesses′ head′ : Lis
       (diagonals-len : length diagonals ≡ lentHead head′ .rows * lentHead head′ .columns) (rights-len : length rights ≡ lentHead head′ .rows * lentHead head′ .columns)
       (ups-len : length ups ≡ lentHead head′ .rows * lentHead head′ .columns) (sources-len : length sources ≡ lentHead head′ .rows * lentHead head′ .columns)
       (F : FormTold (used (lentHead head′) wedge′ weights′ thicknesses′) diagonals rights ups sources at number diagonals′ rights′ ups′ sources′ at′) where
-    -- the film that `film_run` and `film_propose` are then lent
-    abbrev pub lentFilm : Film
-    lentFilm = filmOf (lentHead head′) (take (lentHead head′ .rows * lentHead head′ .columns) weights′) diagonals′ rights′ ups′ sources′
-
-    pub session-told : Session bytes lentFilm
+    pub session-told : Session bytes (lentFilm head′ weights′ diagonals′ rights′ ups′ sources′)
     session-told =
         record {
           head = lentHead head′;
@@ -109,5 +105,5 @@ module _ {bytes weights thicknesses head weights′ thicknesses′ head′ : Lis
         }
 
     -- so demand 3 holds of every list of them
-    pub demand-3-c : Bytes bytes → Claimed lentFilm
+    pub demand-3-c : Bytes bytes → Claimed (lentFilm head′ weights′ diagonals′ rights′ ups′ sources′)
     demand-3-c B = demand-3-calls bytes B session-told

@@ -1,10 +1,11 @@
 -- A film as a caller in C hands it over, and what a call with lent slices leaves.
 use mathlib.Core.Path.{_≡_}
 use mathlib.Core.List.{List}
-use Prim.Native.Nat.{ℕ}
+use Prim.Native.Nat.{ℕ, _*_}
 use lib.IntN.{ℤ}
-use lib.ListN.{getD}
+use lib.ListN.{getD, take}
 use Rattle.model.specs.Gauge.{Gauge}
+use Rattle.model.specs.Film.{Film, filmOf}
 use Rattle.model.specs.Result.{Answer, answerBy, refusalIn, Result}
 use Rattle.model.specs.File.{gaugeIn}
 use Rattle.model.specs.FileCalls.{LoadAnswer, Forms, Loads, formCheck, loadAnswer, loadCheck}
@@ -15,6 +16,11 @@ use Rattle.tell_files.specs.Files.{LoadTold}
 -- a head as it is lent: rows, columns, ceiling
 abbrev pub lentHead : List ℕ → Head
 lentHead head = record { rows = getD head 0 0; columns = getD head 1 0; ceiling = getD head 2 0 }
+
+-- the film that runs and proposals are lent: a head, the weights at the start of the reader's buffer, and formed coefficients
+abbrev pub lentFilm : List ℕ → List ℕ → List ℕ → List ℕ → List ℕ → List ℤ → Film
+lentFilm head weights diagonals rights ups sources =
+    filmOf (lentHead head) (take (lentHead head .rows * lentHead head .columns) weights) diagonals rights ups sources
 
 -- a call with one lent slice told its answer, and left just this in the slice
 pub record Leaves {A : Type 0} (call : Result A) (Tells : A → Type 0) (exit : List ℕ) : Type 0 where

@@ -14,7 +14,7 @@ use Rattle.model.specs.Gauge.{Gauge}
 use Rattle.model.specs.Checks.{shapeCheck}
 use Rattle.model.specs.Result.{Answer, answered, refused, answerBy, Gives}
 use Rattle.model.specs.File.{cells, ringed, rowsOffset, columnsOffset, endOffset, gaugeIn, fileCheck, readFilm, fileOf, gaugeCheck, Bytes, Values}
-use Rattle.model.specs.FileCalls.{gaugeOf, headOf, saveCheck, saveCall, LoadAnswer, film, loadAnswer, loadCheck, laidOver, Loads, used}
+use Rattle.model.specs.FileCalls.{gaugeOf, headOf, saveCheck, saveCall, LoadAnswer, film, loadAnswer, loadCheck, laidOver, Loads, ReadsBack, used}
 use Rattle.model.proofs.Checks.{orElse-parts, failIf-pass}
 use Rattle.model.proofs.File.{file-length, written-reads, read-writes, read-values}
 
@@ -32,12 +32,7 @@ save-gauge g fits e =
     let t : fits ≡ true = not-false fits (failIf-pass (not fits) 10 0 (b .0)) in
     subst (λ (x : Bool). gaugeCheck g x ≡ pass) t e
 
--- Written, then read: the reader answers the film's numbers, and lays them over its buffers.
-pub record ReadsBack (g : Gauge) (weights thicknesses : List ℕ) (answer : Answer LoadAnswer) (weights′ thicknesses′ : List ℕ) : Type 0 where
-  pub answer-is : answer ≡ answered (loadAnswer g)
-  pub weights-are : weights′ ≡ laidOver (g .weights) weights
-  pub thicknesses-are : thicknesses′ ≡ laidOver (g .thicknesses) thicknesses
-
+-- Written, then read.
 pub write-read : (g : Gauge) (out out′ weights thicknesses weights′ thicknesses′ : List ℕ) (answer : Answer LoadAnswer) → Values g
     → Gives (saveCall g out) (answered tt) out′
     → length weights ≡ 1024 → length thicknesses ≡ 1156

@@ -9,7 +9,7 @@ use lib.IntN.{natAbs}
 use lib.ListN.{length, getD}
 use Rattle.model.specs.Limits.{sideLimit, ceilingLimit, thicknessLimit, wedgeLimit}
 use Rattle.model.specs.Lists.{firstOf}
-use Rattle.model.specs.Refusals.{Check, pass, fail, _orElse_, failIf, failFirst}
+use Rattle.model.specs.Refusals.{Check, pass, fail, _orElse_, failIf, failFirst, Numbered}
 use Rattle.model.specs.Gauge.{Gauge}
 use Rattle.model.specs.Film.{Film, sizeOf}
 use Rattle.model.specs.Coefficients.{formed}
@@ -20,9 +20,6 @@ use Rattle.model.specs.File.{shapeField, ceilingField, weightsField, thi
 use Rattle.model.specs.FileCalls.{loadCheck}
 use Rattle.model.specs.Proposal.{rowCheck}
 use Rattle.model.specs.Run.{runCheck}
-
-pub record Numbered (c : Check) : Type 0 where
-  pub some : (number place : ℕ) → c ≡ fail number place → 0 < number
 
 -- ---- tests, and tests one after another
 

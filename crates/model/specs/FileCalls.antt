@@ -99,6 +99,12 @@ pub record Loads (bytes weights thicknesses : List ℕ) (answer : Answer LoadAns
   pub weights-are : weights′ ≡ kept (loadCheck bytes weights thicknesses) (laidOver (gaugeIn bytes .weights) weights) weights
   pub thicknesses-are : thicknesses′ ≡ kept (loadCheck bytes weights thicknesses) (laidOver (gaugeIn bytes .thicknesses) thicknesses) thicknesses
 
+-- what the reader gives of a file that the writer made of g: the film's numbers, laid over its buffers
+pub record ReadsBack (g : Gauge) (weights thicknesses : List ℕ) (answer : Answer LoadAnswer) (weights′ thicknesses′ : List ℕ) : Type 0 where
+  pub answer-is : answer ≡ answered (loadAnswer g)
+  pub weights-are : weights′ ≡ laidOver (g .weights) weights
+  pub thicknesses-are : thicknesses′ ≡ laidOver (g .thicknesses) thicknesses
+
 -- the film whose numbers stand at the starts of a reader's buffers
 abbrev pub used : Head → ℤ → List ℕ → List ℕ → Gauge
 used h wedge weights thicknesses =

@@ -1,6 +1,7 @@
 -- Document 01, "Refusals": their places, and the order of tests. Their numbers are in crate `fault`.
+use mathlib.Core.Path.{_≡_}
 use mathlib.Core.Bool.{Bool, cond}
-use Prim.Native.Nat.{ℕ}
+use Prim.Native.Nat.{ℕ, _<_}
 use lib.Dec.{ltb}
 use Rattle.model.specs.Lists.{firstOf}
 use Rattle.fault.specs.Numbers.{numberOf}
@@ -28,3 +29,7 @@ failIf bad number place = cond bad (fail number place) pass
 -- the lowest of the indices below n at which the test finds a fault; `place` gives an index's place
 abbrev pub failFirst : (ℕ → Bool) → ℕ → ℕ → (ℕ → ℕ) → Check
 failFirst bad n number place = failIf (ltb (firstOf bad n) n) number (place (firstOf bad n))
+
+-- a refusal's number is not 0, which stands for an answer where numbers alone are told
+pub record Numbered (c : Check) : Type 0 where
+  pub some : (number place : ℕ) → c ≡ fail number place → 0 < number
