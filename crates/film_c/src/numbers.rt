@@ -46,7 +46,7 @@ pub extern "C" fn film_margin(
     ensures { λ r. ⌜ MarginTold (marginCall (filmOf (lentHead (now (head .entry))) (now (weights .entry)) (now (diagonals .entry)) (now (rights .entry)) (now (ups .entry)) (now (sources .entry)))) (now (margin .entry)) (now (place .entry)) r (now (margin .exit)) (now (place .exit)) ⌝ }
 {
     let head = archive::head_of(head);
-    let answer = line::margin(head, weights, diagonals, rights, ups, sources);
+    let answer = line_estimate::margin(head, weights, diagonals, rights, ups, sources);
     tell::margin(answer, margin, place)
 }
 
@@ -155,7 +155,7 @@ pub extern "C" fn film_estimate(
     ensures { λ r. ⌜ Leaves (estimateCall (filmOf (lentHead (now (head .entry))) (now (weights .entry)) (now (diagonals .entry)) (now (rights .entry)) (now (ups .entry)) (now (sources .entry))) line (now (field .entry)) (now (proposal .entry))) (λ a. Told (refusalIn a) (now (place .entry)) r (now (place .exit))) (now (proposal .exit)) ⌝ }
 {
     let head = archive::head_of(head);
-    let answer = line::estimate(
+    let answer = line_estimate::estimate(
         head,
         weights,
         diagonals,

@@ -170,11 +170,11 @@ fn margin(answer: Margin) {
 
 fn margin_on(h: Head, sources: &[i64]) {
     text(b"MARGIN");
-    margin(line::margin(h, &WEIGHTS, &DIAGONALS, &RIGHTS, &UPS, sources));
+    margin(line_estimate::margin(h, &WEIGHTS, &DIAGONALS, &RIGHTS, &UPS, sources));
 }
 
 fn estimate_on(h: Head, sources: &[i64], field: &[u32], proposal: &mut [u32]) {
-    line::estimate(
+    line_estimate::estimate(
         h,
         &WEIGHTS,
         &DIAGONALS,

@@ -6,27 +6,25 @@ use denote.Ref.{now}
 use Rattle.model.specs.Refusals.{pass, checkOf}
 use Rattle.model.specs.Film.{Film, filmOf}
 use Rattle.model.specs.Proposal.{rowCheck}
-use Rattle.line.proofs.Calls.{line-tested, LinePassed, line-ready, propose-passed, propose-refused}
+use Rattle.line_checks.proofs.Passed.{LinePassed, line-ready}
+use Rattle.line.proofs.Calls.{propose-passed, propose-refused}
 use Rattle.line.proofs.propose.Statement.{statement}
 use Rattle.line.proofs.propose.Tie as tie
 
 -- the start, from the tests
-abbrev start : tie.After-field-tests → tie.Start
-start t = t .before .before .before .before .before .before .before .before .before .before
+abbrev start : tie.After-line-tests → tie.Start
+start t = t .before .before .before .before .before .before .before .before
 
-abbrev film : tie.After-field-tests → Film
+abbrev film : tie.After-line-tests → Film
 film t = let a = start t .args in filmOf (a .head) (now (a .weights)) (now (a .diagonals)) (now (a .rights)) (now (a .ups)) (now (a .sources))
 
 -- the tests find what document 01's do
-tested : (t : tie.After-field-tests) → let a = start t .args in
-    checkOf (t .field-tests .result) ≡ rowCheck (film t) (now (a .field)) (now (a .proposal)) (a .line)
-tested t =
-    let a = start t .args in
-    let x = t .before .before .before .line-test in
-    line-tested (film t) (now (a .field)) (now (a .proposal)) (a .line) (t .field-tests .result) (x .result) (t .field-tests .ensures) (x .ensures)
+tested : (t : tie.After-line-tests) → let a = start t .args in
+    checkOf (t .line-tests .result) ≡ rowCheck (film t) (now (a .field)) (now (a .proposal)) (a .line)
+tested t = t .line-tests .ensures
 
 -- they have passed
-abbrev tests : tie.After-enum-told → tie.After-field-tests
+abbrev tests : tie.After-enum-told → tie.After-line-tests
 tests e = e .before .before
 
 passed : (e : tie.After-enum-told) → let a = start (tests e) .args in rowCheck (film (tests e)) (now (a .field)) (now (a .proposal)) (a .line) ≡ pass
@@ -35,14 +33,8 @@ passed e = sym (tested (tests e)) ∙ ap checkOf (e .enum-told .given .1)
 ready : (e : tie.After-enum-told) → let a = start (tests e) .args in LinePassed (film (tests e)) (now (a .field)) (now (a .proposal)) (a .line)
 ready e = let a = start (tests e) .args in line-ready (film (tests e)) (now (a .field)) (now (a .proposal)) (a .line) (passed e)
 
-line-test-requires : tie.Need-line-test-requires
-line-test-requires c κs = search needs
-
-cast-fits : tie.Need-cast-fits
-cast-fits c = search needs
-
-field-tests-requires : tie.Need-field-tests-requires
-field-tests-requires c κs = search needs
+line-tests-requires : tie.Need-line-tests-requires
+line-tests-requires c κs = search needs
 
 enum-told : tie.Need-enum-told
 enum-told c = search needs
@@ -91,9 +83,7 @@ pub propose-spec : {M : Type 1} → statement M
 propose-spec =
     tie.close
     (tie.spec
-    line-test-requires
-    cast-fits
-    field-tests-requires
+    line-tests-requires
     enum-told
     line-start-requires
     propose-requires

@@ -1,4 +1,4 @@
--- `line::margin` meets its contract: its tests are the model's, in its order, and the margin of a film that passes them needs no sources.
+-- `line_estimate::margin` meets its contract: its tests are the model's, in its order, and the margin of a film that passes them needs no sources.
 use mathlib.Core.Path.{_≡_, sym, ap, _∙_}
 use mathlib.Core.Bool.{true}
 use borrow.Author.Needs.{needs}
@@ -8,9 +8,9 @@ use Rattle.model.specs.Film.{Film, filmOf}
 use Rattle.model.specs.Checks.{filmCheck}
 use Rattle.model.proofs.Checks.{check-passes}
 use Rattle.checks.proofs.Own.{film-own}
-use Rattle.line.proofs.Calls.{margin-passed, margin-refused}
-use Rattle.line.proofs.margin.Statement.{statement}
-use Rattle.line.proofs.margin.Tie as tie
+use Rattle.line_estimate.proofs.Calls.{margin-passed, margin-refused}
+use Rattle.line_estimate.proofs.margin.Statement.{statement}
+use Rattle.line_estimate.proofs.margin.Tie as tie
 
 -- the start, from the tests
 abbrev start : tie.After-film-tests → tie.Start

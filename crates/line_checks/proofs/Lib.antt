@@ -1,0 +1,2 @@
+-- Laws that other crates use.
+pub mod Passed
