@@ -59,7 +59,8 @@ _Static_assert(sizeof(film_head) == 3 * sizeof(uint32_t), "film_head has the lay
 
 /* Reads a film file. `weights` has 1,024 elements and `thicknesses` 1,156, whatever the film; those beyond the film's N and T keep their
  * contents. Writes the film's head and its wedge.
- * Refusals: 10, then the fields in their order, each with 1, 2, 3 and its values (4, 5, 6, 7, 8), then 2 for what follows, then 9. */
+ * Refusals: 10, then the fields in their order, each with 1 (header), 2, 3, 1 (body) and its values (4, 5, 6, 7, 8), then 2 for what follows,
+ * then 9. */
 uint32_t film_read(const uint8_t *file, size_t file_len,
                    uint16_t *weights, size_t weights_len, uint8_t *thicknesses, size_t thicknesses_len,
                    film_head *head, int32_t *wedge, size_t *place);
@@ -71,7 +72,9 @@ uint32_t film_write(const film_head *head,
                     int32_t wedge, uint8_t *out, size_t out_len, size_t *place);
 
 /* Forms the coefficients of a film from its thicknesses and wedge. `weights`, `diagonals`, `rights`, `ups` and `sources` have N elements,
- * `thicknesses` has T. Refusals: 4, 10, 5, 6, 7, 8, 9. */
+ * `thicknesses` has T. The link of two neighbours, or of a cell and its neighbour on the ring, is the cube of the sum of their two
+ * thicknesses; a diagonal is the sum of the cell's four links; a source is wedge * (thickness of the next column - thickness of the column
+ * before) in the cell's row. Refusals: 4, 10, 5, 6, 7, 8, 9. */
 uint32_t film_form(const film_head *head,
                    const uint16_t *weights, size_t weights_len, const uint8_t *thicknesses, size_t thicknesses_len,
                    int32_t wedge,
@@ -79,7 +82,19 @@ uint32_t film_form(const film_head *head,
                    uint32_t *ups, size_t ups_len, int64_t *sources, size_t sources_len,
                    size_t *place);
 
-/* The calls below take a film as coefficients: `weights`, `diagonals`, `rights`, `ups`, `sources` and `field` have N elements. */
+/* The calls below take a film as coefficients: `weights`, `diagonals`, `rights`, `ups`, `sources` and `field` have N elements, one a cell.
+ *
+ *    diagonals  1 to 134,217,728
+ *    rights     right links, to the cell in the next column, 0 to 16,777,216; 0 in the last column
+ *    ups        up links, to the cell in the next row, 0 to 16,777,216; 0 in the last row
+ *    sources    -1,125,899,906,842,624 to 1,125,899,906,842,624, both ends included
+ *
+ * Outside these limits is refusal 14, at the lowest cell with such a number. A link serves both of its cells. Links to the ring count in the
+ * diagonals alone, since the ring's pressure is 0.
+ *
+ * The slack of a cell in a field is diagonal * its pressure + source - the sum of link * neighbour's pressure over its neighbours inside the
+ * grid. A field meets the film when no pressure is above the ceiling and no slack is negative. The weighted row sum of a cell, which has to
+ * be at least 1 (refusal 9), is the slack with weights for pressures and source 0. */
 
 /* Relaxes cell `at` of the field. Writes to result[0]: 0 if the cell is quiet, 1 if it was raised, 2 if it would pass the ceiling; and to
  * result[1] the pressure that it was raised to, else 0. The field changes in that cell alone, and only if it was raised.
@@ -97,7 +112,8 @@ uint32_t film_slack(const film_head *head,
                     const int64_t *sources, size_t sources_len,
                     const uint32_t *field, size_t field_len, size_t at, int64_t *slack, size_t *place);
 
-/* Writes the film's margin to *margin. Refusals: 4, 5, 10, 14, 6, 9. */
+/* Writes the film's margin to *margin: the least whole number K, 0 included, with K * weighted row sum at least the sum of the cell's inside
+ * links (those to cells of the grid), at every cell. An estimate keeps K * weight below what it works out. Refusals: 4, 5, 10, 14, 6, 9. */
 uint32_t film_margin(const film_head *head,
                      const uint16_t *weights, size_t weights_len, const uint32_t *diagonals, size_t diagonals_len,
                      const uint32_t *rights, size_t rights_len, const uint32_t *ups, size_t ups_len,
@@ -125,7 +141,8 @@ uint32_t film_estimate(const film_head *head,
 /* Makes a run: at most `budget` relaxations by ordering 0, 1 or 2 (rising, falling, even cells before odd), with the program's own
  * proposals for all lines before them or without. Writes to result[0]: 0 done, 1 stopped, 2 over; to result[1] the relaxations made, to
  * result[2] the raises among them, to result[3] the cells raised by proposals; and, if over, the cell that would pass the ceiling to *cell,
- * which is left as it was otherwise. Done leaves the least field at or above the start that meets the film.
+ * which is left as it was otherwise. Done leaves the least field at or above the start that meets the film; over means that none at or above
+ * the start does.
  * Refusals: 4, 5, 10, 14, 6, 9, 11, 12. */
 uint32_t film_run(const film_head *head,
                   const uint16_t *weights, size_t weights_len, const uint32_t *diagonals, size_t diagonals_len,
