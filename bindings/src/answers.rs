@@ -42,7 +42,8 @@ pub enum Outcome {
     Done(Counts),
     /// The budget is used up.
     Stopped(Counts),
-    /// No field below the ceiling is feasible: this cell's required pressure is above it.
+    /// No field at or above the start and up to the ceiling is feasible: this cell's required
+    /// pressure is above the ceiling.
     Over(usize, Counts),
 }
 
