@@ -2,7 +2,7 @@
 // writing what was read gives the file's own bytes. data/ has valid files of several sizes, each refusal 1 to 9 at several
 // places, and files with two faults.
 //
-// data/, args and stdout are written by bench/film_files.py, from document 01 alone: it shares no line with this program, works
+// data/, args and stdout are written by tests/film_files.py, from document 01 alone: it shares no line with this program, works
 // in Python's whole numbers, and each faulty file carries its refusal's number and place written by hand.
 use libc::STDOUT_FILENO;
 use model::Formed;

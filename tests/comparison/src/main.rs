@@ -24,9 +24,7 @@ use tally::Tally;
 use trial::Disagreement;
 
 const USAGE: &str = "usage: compare [--seed S] [--count FILMS] [--first FILM]
-Compares the library's calls with the test oracle's on random films, 100,000 of them if no count is
-given. A seed repeats a run; --first begins it at a later film. Exit status: 0 all agree, 1 a call
-disagrees, 2 bad usage.";
+tests/compare --help says more.";
 
 struct Arguments {
     seed: u64,

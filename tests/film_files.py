@@ -1,5 +1,6 @@
 #!/usr/bin/env python3
 """Writes crates/film_files: the film files in data/, their names in args and what the program must print in stdout.
+Usage: python3 tests/film_files.py
 
 Worked out from document 01 alone, in Python's whole numbers: it shares no line with the program. A film is described by its
 numbers; its file, and the answer to it, are worked out here. The faulty files carry the number and place that document 01's
