@@ -1,6 +1,7 @@
 //! Measures Film's calls, by turns with what they are compared with, and prints the page of results.
 //! Usage: measure RUSTC DATE [FILE]: the compiler's version and the date for the head of the page,
-//! and a file to write it to as Markdown too.
+//! and a file to write it to as Markdown too. `measure report` prints the report of the film on
+//! standard input, in plain Rust.
 
 mod calls;
 mod clock;
@@ -17,10 +18,11 @@ use std::{env, fs, io, process, thread};
 fn main() -> io::Result<()> {
     let arguments: Vec<String> = env::args().skip(1).collect();
     let (compiler, date, file) = match arguments.as_slice() {
+        [mode] if mode == sections::program::MODE => return sections::program::print_report(),
         [compiler, date] => (compiler, date, None),
         [compiler, date, file] => (compiler, date, Some(file)),
         _ => {
-            eprintln!("usage: measure RUSTC DATE [FILE]");
+            eprintln!("usage: measure RUSTC DATE [FILE], or measure report < FILE");
             process::exit(2);
         }
     };
@@ -33,6 +35,7 @@ fn main() -> io::Result<()> {
             sections::proposals::section(),
             sections::files::section(),
             sections::growth::section(),
+            sections::program::section(),
         ],
     };
     print!("{}", page.text());

@@ -4,8 +4,17 @@
 
 use crate::problem::System;
 
+/// How a run ends; Over has the cell that requires more than the ceiling.
 #[derive(Clone, Copy, Debug, PartialEq, Eq)]
-pub struct Counts {
+pub enum End {
+    Done,
+    Stopped,
+    Over(usize),
+}
+
+#[derive(Clone, Copy, Debug, PartialEq, Eq)]
+pub struct Ran {
+    pub end: End,
     pub visits: u32,
     pub raises: u32,
 }
@@ -17,7 +26,7 @@ pub fn forward(cells: usize) -> Vec<u16> {
 
 /// The whole call: the tests of its input, the table of ordering 0, and the run.
 #[inline(never)]
-pub fn tested_run(system: System, field: &mut [u32], budget: u32) -> Option<Counts> {
+pub fn tested_run(system: System, field: &mut [u32], budget: u32) -> Option<Ran> {
     accepted(system, field).then(|| run(system, &forward(field.len()), field, budget))
 }
 
@@ -25,45 +34,31 @@ pub fn tested_run(system: System, field: &mut [u32], budget: u32) -> Option<Coun
 /// the ceiling, or the budget is used up.
 #[inline(never)]
 #[allow(clippy::manual_div_ceil)] // as Film works it: one division, no remainder
-pub fn run(system: System, order: &[u16], field: &mut [u32], budget: u32) -> Counts {
-    let System {
-        columns,
-        diagonals,
-        rights,
-        ups,
-        sources,
-        ..
-    } = system;
+pub fn run(system: System, order: &[u16], field: &mut [u32], budget: u32) -> Ran {
     let n = order.len();
-    let lengths = [diagonals.len(), rights.len(), ups.len(), sources.len()];
-    assert!(n == field.len() && lengths == [n; 4], "slices of N");
+    assert!(n == field.len() && system.fits(n), "slices of N");
     let ceiling = u64::from(system.ceiling);
     let (mut place, mut visits, mut raises, mut quiet) = (0, 0, 0, 0);
+    let mut end = End::Stopped;
     while visits < budget {
         // SAFETY: `order` names cells below N, and every slice has N numbers.
-        let (cell, pull, pressure, diagonal, source) = unsafe {
-            let cell = *order.get_unchecked(place) as usize;
-            (
-                cell,
-                pull(rights, ups, field, columns, cell),
-                *field.get_unchecked(cell),
-                u64::from(*diagonals.get_unchecked(cell)),
-                *sources.get_unchecked(cell),
-            )
-        };
+        let cell = unsafe { *order.get_unchecked(place) as usize };
+        let (pull, pressure, diagonal, source) = unsafe { loaded(system, field, cell) };
         let lift = if source < 0 { 0 } else { source as u64 };
         let drop = if source < 0 { source.unsigned_abs() } else { 0 };
         let load = pull + drop;
         visits += 1;
         place = if place + 1 == n { 0 } else { place + 1 };
-        if load <= diagonal * u64::from(pressure) + lift {
+        if load <= diagonal * pressure + lift {
             quiet += 1;
             if quiet == n {
+                end = End::Done;
                 break;
             }
         } else {
             let required = (load - lift + (diagonal - 1)) / diagonal;
             if ceiling < required {
+                end = End::Over(cell);
                 break;
             }
             // SAFETY: as above.
@@ -72,24 +67,21 @@ pub fn run(system: System, order: &[u16], field: &mut [u32], budget: u32) -> Cou
             quiet = 0;
         }
     }
-    Counts { visits, raises }
+    Ran {
+        end,
+        visits,
+        raises,
+    }
 }
 
 /// The tests of a run's input: shape, ceiling, lengths, limits, weights, row sums and start.
 fn accepted(system: System, field: &[u32]) -> bool {
     let n = system.rows * system.columns;
     let shape = (1..=32).contains(&system.rows) && (1..=32).contains(&system.columns);
-    let lengths = [
-        system.weights.len(),
-        system.diagonals.len(),
-        system.rights.len(),
-        system.ups.len(),
-        system.sources.len(),
-        field.len(),
-    ];
     shape
         && (1..=16_777_216).contains(&system.ceiling)
-        && lengths == [n; 6]
+        && n == field.len()
+        && system.fits(n)
         && (0..n).all(|cell| within_limits(system, cell))
         && system.weights.iter().all(|&weight| weight > 0)
         && (0..n).all(|cell| dominance(system, cell) > 0)
@@ -132,6 +124,22 @@ pub fn slack(system: System, field: &[u32], cell: usize) -> i64 {
     let pull = unsafe { pull(system.rights, system.ups, field, system.columns, cell) };
     let held = i64::from(system.diagonals[cell]) * i64::from(field[cell]);
     held - pull as i64 + system.sources[cell]
+}
+
+/// A cell's pull, pressure, diagonal and source.
+///
+/// # Safety
+/// The slices have N numbers each, and `cell` is below N.
+#[inline(always)]
+unsafe fn loaded(system: System, field: &[u32], cell: usize) -> (u64, u64, u64, i64) {
+    unsafe {
+        (
+            pull(system.rights, system.ups, field, system.columns, cell),
+            u64::from(*field.get_unchecked(cell)),
+            u64::from(*system.diagonals.get_unchecked(cell)),
+            *system.sources.get_unchecked(cell),
+        )
+    }
 }
 
 /// Sum of link × neighbour's pressure inside the grid.

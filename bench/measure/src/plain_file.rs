@@ -2,11 +2,11 @@
 //! calls do, with the same tests, as one would write it without proofs.
 
 use crate::calls::{head, Lent, Refused};
-use crate::plain;
+use crate::plain::{self, End};
 use crate::problem::System;
 use film::Head;
 use film_oracle::film::Film;
-use std::fmt::Write;
+use std::fmt::{self, Write};
 
 /// A film's numbers as slices.
 #[derive(Clone, Copy)]
@@ -210,7 +210,7 @@ fn fill(film: Numbers, lent: &mut Lent) {
     }
 }
 
-/// The report of an accepted film's file that is Done, after those tests that reading makes.
+/// The report of an accepted film's file, after those tests that reading makes.
 #[inline(never)]
 pub fn report(file: &[u8], text: &mut String) -> Result<(), Refused> {
     let (mut weights, mut thicknesses) = ([0; 1_024], [0; 1_156]);
@@ -238,25 +238,25 @@ pub fn report(file: &[u8], text: &mut String) -> Result<(), Refused> {
         sources: &lent.sources,
     };
     let mut field = vec![0; cells];
-    let counts = plain::run(system, &plain::forward(cells), &mut field, 4_000_000);
+    let ran = plain::run(system, &plain::forward(cells), &mut field, 4_000_000);
     text.clear();
-    print(system, &field, counts, text).expect("text grows");
+    print(system, &field, ran, text).expect("text grows");
     Ok(())
 }
 
-fn print(
-    system: System,
-    field: &[u32],
-    counts: plain::Counts,
-    text: &mut String,
-) -> std::fmt::Result {
-    let place = |cell: usize| (cell / system.columns + 1, cell % system.columns + 1);
-    writeln!(
-        text,
-        "FILM {} {} CEILING {}",
-        system.rows, system.columns, system.ceiling
-    )?;
-    writeln!(text, "DONE {} {}", counts.visits, counts.raises)?;
+fn print(system: System, field: &[u32], ran: plain::Ran, text: &mut String) -> fmt::Result {
+    let (rows, columns, ceiling) = (system.rows, system.columns, system.ceiling);
+    let place = |cell: usize| (cell / columns + 1, cell % columns + 1);
+    let (word, over) = match ran.end {
+        End::Done => ("DONE", None),
+        End::Stopped => ("STOPPED", None),
+        End::Over(cell) => ("OVER", Some(cell)),
+    };
+    writeln!(text, "FILM {rows} {columns} CEILING {ceiling}")?;
+    writeln!(text, "{word} {} {}", ran.visits, ran.raises)?;
+    if let Some((row, column)) = over.map(place) {
+        return writeln!(text, "{row} {column}");
+    }
     let mut peak = 0;
     for (cell, pressure) in field.iter().enumerate() {
         let (row, column) = place(cell);

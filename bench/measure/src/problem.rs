@@ -38,6 +38,14 @@ pub struct System<'a> {
     pub sources: &'a [i64],
 }
 
+impl System<'_> {
+    /// Every slice has N numbers.
+    pub fn fits(&self, n: usize) -> bool {
+        let links = [self.diagonals.len(), self.rights.len(), self.ups.len()];
+        links == [n; 3] && [self.weights.len(), self.sources.len()] == [n; 2]
+    }
+}
+
 impl Problem {
     pub fn of_film(film: &Film) -> Problem {
         Problem::new(film.ceiling, film.weights.clone(), form(film))

@@ -2,6 +2,7 @@
 
 pub mod files;
 pub mod growth;
+pub mod program;
 pub mod proposals;
 pub mod real_numbers;
 pub mod relaxations;

@@ -3,7 +3,7 @@
 use crate::calls;
 use crate::clock::by_turns;
 use crate::page::{percent, remark, whole, Section};
-use crate::plain::{self, Counts};
+use crate::plain::{self, Ran};
 use crate::problem::{journal, short_wedge, Problem};
 use film_oracle::samples;
 
@@ -64,15 +64,15 @@ fn row(name: &str, problem: &Problem) -> Vec<String> {
 }
 
 /// Film, plain Rust and the oracle make the same relaxations and leave the same field.
-pub fn agreed(problem: &Problem, budget: u32) -> Counts {
+pub fn agreed(problem: &Problem, budget: u32) -> Ran {
     let (outcome, expected) = problem.oracle_run(budget, 0, false);
     let mut field = problem.zeros();
     let ran = calls::run(problem, &mut field, budget, 0, false).expect("an accepted film");
     let same = (ran.visits, ran.raises) == (outcome.visits, outcome.raises);
     assert!(same && field == expected, "film_run and the oracle");
     let mut field = problem.zeros();
-    let counts = plain::tested_run(problem.system(), &mut field, budget).expect("an accepted film");
-    let same = (counts.visits, counts.raises) == (outcome.visits, outcome.raises);
+    let ran = plain::tested_run(problem.system(), &mut field, budget).expect("an accepted film");
+    let same = (ran.visits, ran.raises) == (outcome.visits, outcome.raises);
     assert!(same && field == expected, "plain Rust and the oracle");
-    counts
+    ran
 }
