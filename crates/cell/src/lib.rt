@@ -101,12 +101,13 @@ impl Cell {
     }
 
     // The pressure that a relaxation would lift the cell to, the ceiling left aside: its own if it is quiet.
-    // It divides only if the slack is negative.
+    // It divides only if the slack is negative. The positive terms stand first: the compiler then adds the pull last, for which a run
+    // of raises waits, cell by cell.
     pub fn raise(self, pressure: u32) -> u64
         requires { ⌜ Bounded self ⌝ }
         ensures { λ r. ⌜ r ≡ max pressure (requiredFor (self .diagonal) (self .pull) (self .source)) ⌝ }
     {
-        if self.negative_terms() <= self.positive_terms(pressure) {
+        if self.positive_terms(pressure) >= self.negative_terms() {
             return pressure as u64;
         }
         self.required()

@@ -6,11 +6,11 @@ use Rattle.cell.proofs.Limits.{raise-quiet, raise-up}
 use Rattle.cell.proofs.Cell.raise.Statement.{statement}
 use Rattle.cell.proofs.Cell.raise.Tie as tie
 
-negative-terms-requires : tie.Need-negative-terms-requires
-negative-terms-requires c κs = search needs
-
 positive-terms-requires : tie.Need-positive-terms-requires
 positive-terms-requires c κs = search needs
+
+negative-terms-requires : tie.Need-negative-terms-requires
+negative-terms-requires c κs = search needs
 
 returns : tie.Need-returns
 returns c = let s = c .before .before .before in raise-quiet _ (s .pre) (s .args .pressure) (omega arith)
@@ -25,4 +25,4 @@ returns-2 c =
 
 pub raise-spec : {M : Type 1} → statement M
 raise-spec =
-    tie.close (tie.spec negative-terms-requires positive-terms-requires returns required-requires returns-2)
+    tie.close (tie.spec positive-terms-requires negative-terms-requires returns required-requires returns-2)
