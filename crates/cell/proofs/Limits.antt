@@ -1,9 +1,10 @@
 -- Slack and required pressure in naturals, and that no sum passes its type.
 use mathlib.Core.Path.{_≡_}
-use Prim.Native.Nat.{ℕ, _*_, _≤_, _<_, _^_, max}
+use Prim.Native.Nat.{ℕ, _*_, _≤_, _<_, _^_}
 use native.Mathlib.Nat.{mul-le-mul}
 use native.Mathlib.Decide.{decLe}
 use native.Mathlib.Omega.{arith}
+use borrow.Author.Tests.{le-leb, lt-leb}
 use lib.IntN.{ℤ, pos, negsuc, subℕ}
 use mir.Syntax.{w64}
 use mir.Val.{SFits, toZ, ofZ}
@@ -13,6 +14,7 @@ use Rattle.model.specs.Integers.{positivePart, negativePart}
 use Rattle.model.specs.Film.{slackOf}
 use Rattle.model.specs.Relaxation.{requiredFor}
 use Rattle.model.proofs.Integers.{sub-source}
+use Rattle.pointwise.specs.Relaxation.{raiseTo}
 use Rattle.cell.specs.Cell.{Bounded, positiveTerms, negativeTerms}
 use Rattle.cell.specs.declared.Cell.{Cell}
 
@@ -33,12 +35,16 @@ module _ (c : Cell) (b : Bounded c) where
   unfolding negativeTerms positiveTerms
   required-met p h = required-enough (c .diagonal) (positivePart (c .source)) (negativeTerms c) p (b .some) h
 
-  -- a quiet cell keeps its pressure, and any other goes to what it requires
-  pub raise-quiet : (p : ℕ) → negativeTerms c ≤ positiveTerms c p → p ≡ max p (requiredBy c)
-  raise-quiet p h = omega (arith, met-required p h)
+  -- a quiet cell is raised to nothing, and any other to what it requires
+  pub raise-quiet : (p : ℕ) → negativeTerms c ≤ positiveTerms c p → 0 ≡ raiseTo (requiredBy c) p
+  raise-quiet p h = rw (le-leb _ _ (met-required p h))
 
-  pub raise-up : (p : ℕ) → positiveTerms c p < negativeTerms c → requiredBy c ≡ max p (requiredBy c)
-  raise-up p h = elim (decLe (requiredBy c) p) [ yes l ↦ absurd (omega (arith, required-met p l)) | no l ↦ omega arith ]
+  pub raise-up : (p : ℕ) → positiveTerms c p < negativeTerms c → requiredBy c ≡ raiseTo (requiredBy c) p
+  raise-up p h =
+      elim (decLe (requiredBy c) p) [
+        | yes l ↦ absurd (omega (arith, required-met p l))
+        | no l ↦ rw (lt-leb (requiredBy c) p (omega arith))
+      ]
 
   pub product-small : (p : ℕ) → p < 2 ^ 32 → c .diagonal * p ≤ 2 ^ 60
   product-small p h =

@@ -9,6 +9,7 @@ ghost use lib.IntN.{subℕ};
 ghost use Rattle.model.specs.Integers.{positivePart, negativePart};
 ghost use Rattle.model.specs.Film.{slackOf};
 ghost use Rattle.model.specs.Relaxation.{requiredFor};
+ghost use Rattle.pointwise.specs.Relaxation.{raiseTo};
 ghost use Rattle.cell.specs.Cell.{Bounded, positiveTerms, negativeTerms};
 
 // How far a signed number is above 0.
@@ -100,15 +101,15 @@ impl Cell {
         (negative - positive + (diagonal - 1)) / diagonal
     }
 
-    // The pressure that a relaxation would lift the cell to, the ceiling left aside: its own if it is quiet.
+    // The pressure that a relaxation would lift the cell to, the ceiling left aside: 0 if it is quiet, so that nobody compares again.
     // It divides only if the slack is negative. The positive terms stand first: the compiler then adds the pull last, for which a run
     // of raises waits, cell by cell.
     pub fn raise(self, pressure: u32) -> u64
         requires { ⌜ Bounded self ⌝ }
-        ensures { λ r. ⌜ r ≡ max pressure (requiredFor (self .diagonal) (self .pull) (self .source)) ⌝ }
+        ensures { λ r. ⌜ r ≡ raiseTo (requiredFor (self .diagonal) (self .pull) (self .source)) pressure ⌝ }
     {
         if self.positive_terms(pressure) >= self.negative_terms() {
-            return pressure as u64;
+            return 0;
         }
         self.required()
     }

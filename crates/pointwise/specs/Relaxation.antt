@@ -3,7 +3,7 @@ use mathlib.Core.Path.{_≡_}
 use mathlib.Core.Bool.{cond}
 use mathlib.Core.List.{List}
 use Prim.Native.Nat.{ℕ, _+_, _≤_, _<_}
-use lib.Dec.{eqb}
+use lib.Dec.{eqb, leb}
 use lib.ListN.{getD, set}
 use Rattle.monotone.specs.Sweep.{Relaxation, quiet, raise, exceed, relax}
 use Rattle.pointwise.specs.declared.Counter.{Counter}
@@ -12,6 +12,10 @@ use Rattle.pointwise.specs.declared.Found.the-variants as founds
 use Rattle.pointwise.specs.declared.After.{After}
 use Rattle.pointwise.specs.declared.Step.{Step}
 use Rattle.pointwise.specs.declared.Step.the-variants as steps
+
+-- where a relaxation lifts a cell to, the ceiling left aside; 0 if it is quiet: no cell is raised to that
+abbrev pub raiseTo : ℕ → ℕ → ℕ
+raiseTo required pressure = cond (leb required pressure) 0 required
 
 abbrev pub kindOf : Found → Relaxation
 kindOf founds.Quiet = quiet
@@ -40,11 +44,15 @@ pub record Room (c : Counter) : Type 0 where
   pub raises-low : c .raises ≤ c .visits
   pub quiet-low : c .quiet ≤ c .visits
 
--- a relaxation of cell i: it goes to the target if that is above its pressure
-pub record RelaxedAt (entry : List ℕ) (i target ceiling : ℕ) (v : Found) (exit : List ℕ) : Type 0 where
-  pub kind : kindOf v ≡ relax ceiling target (getD entry i 0)
-  pub field : exit ≡ fieldAfter (relax ceiling target (getD entry i 0)) entry i target
+-- a relaxation of cell i that finds k: a raise goes to the target
+pub record RelaxedAt (entry : List ℕ) (i target : ℕ) (k : Relaxation) (v : Found) (exit : List ℕ) : Type 0 where
+  pub kind : kindOf v ≡ k
+  pub field : exit ≡ fieldAfter k entry i target
 
-pub record Stepped (entry : List ℕ) (i target ceiling : ℕ) (c : Counter) (r : After) (exit : List ℕ) : Type 0 where
-  pub relaxed : RelaxedAt entry i target ceiling (r .found) exit
-  pub counter : r .counter ≡ countAfter (relax ceiling target (getD entry i 0)) c
+pub record Stepped (entry : List ℕ) (i target : ℕ) (k : Relaxation) (c : Counter) (r : After) (exit : List ℕ) : Type 0 where
+  pub relaxed : RelaxedAt entry i target k (r .found) exit
+  pub counter : r .counter ≡ countAfter k c
+
+-- a relaxation of cell i, counted: what it requires is compared with its pressure
+abbrev pub Relaxes : List ℕ → ℕ → ℕ → ℕ → Counter → After → List ℕ → Type 0
+Relaxes entry i required ceiling = Stepped entry i required (relax ceiling required (getD entry i 0))

@@ -5,7 +5,7 @@
 ghost use mathlib.Core.Path.{_≡_};
 ghost use Prim.Native.Nat.{_<_};
 ghost use lib.ListN.{length};
-ghost use Rattle.monotone.specs.Sweep.{next};
+ghost use Rattle.monotone.specs.Sweep.{relax, next};
 ghost use Rattle.pointwise.specs.Relaxation.{Room, countAfter, kindOf, judgeBy, RelaxedAt};
 
 // What a sweep has counted: relaxations, raises, and quiet relaxations since the last raise. Each has a machine word of its own, so that
@@ -44,13 +44,12 @@ pub fn next_place(n: usize, place: usize) -> usize
     if place + 1 == n { 0 } else { place + 1 }
 }
 
-// The work on the field: the cell goes to its target if that is above its pressure and not above the ceiling.
+// The work on the field: the cell goes to its target if that is not above the ceiling. A quiet cell has the target 0.
 pub fn relax_at(field: &mut [u32], at: usize, target: u64, ceiling: u32) -> Found
     requires { ⌜ at < length (now field) ⌝ }
-    ensures { λ r. ⌜ RelaxedAt (now (field .entry)) at target ceiling r (now (field .exit)) ⌝ }
+    ensures { λ r. ⌜ RelaxedAt (now (field .entry)) at target (relax ceiling target 0) r (now (field .exit)) ⌝ }
 {
-    let pressure = field[at];
-    if target <= pressure as u64 {
+    if target == 0 {
         return Found::Quiet;
     }
     if (ceiling as u64) < target {

@@ -2,13 +2,12 @@
 use mathlib.Core.Path.{_≡_, refl, sym, ap, _∙_}
 use mathlib.Core.Bool.{true}
 use mathlib.Core.List.{List}
-use Prim.Native.Nat.{ℕ, _≤_, _<_, max}
-use native.Mathlib.Omega.{arith}
+use Prim.Native.Nat.{ℕ, _≤_, _<_}
 use lib.IntN.{ℤ}
 use lib.Dec.{leb}
 use lib.ListN.{length, getD}
 use Rattle.monotone.specs.Sweep as theory
-use borrow.Author.Tests.{leb-false}
+use borrow.Author.Tests.{lt-leb, leb-false}
 use Rattle.model.specs.Refusals.{pass, fail, checkOf}
 use Rattle.model.specs.Film.{Film, sizeOf, beside, across, neighbours, slack}
 use Rattle.model.specs.Checks.{fieldCheck, cellCheck}
@@ -21,9 +20,9 @@ use Rattle.model.specs.declared.Tested.{Tested}
 use Rattle.cell.specs.declared.Cell.{Cell}
 use Rattle.grid.specs.Pull.{cellBy}
 use Rattle.grid.proofs.Limited.{cell-is}
-use Rattle.pointwise.specs.Relaxation.{kindOf, fieldAfter, RelaxedAt}
+use Rattle.pointwise.specs.Relaxation.{raiseTo, kindOf, fieldAfter, RelaxedAt}
 use Rattle.pointwise.specs.declared.Found.{Found}
-use Rattle.pointwise.proofs.Relaxation.{relax-target, raise-above}
+use Rattle.pointwise.proofs.Relaxation.{relaxed-target, raise-above}
 
 -- what a film, a field and a cell are that have passed their tests
 pub record PointPassed (f : Film) (p : List ℕ) (i : ℕ) : Type 0 where
@@ -42,21 +41,20 @@ pub point-tested : (f : Film) (p : List ℕ) (i : ℕ) (t x : Tested) → checkO
 point-tested f p i t x e g = rw (← g) e
 
 -- a raise goes to at most the ceiling
-pub raised-fits : {p exit : List ℕ} {i ceiling target : ℕ} {v : Found} → RelaxedAt p i target ceiling v exit → kindOf v ≡ theory.raise → target ≤ ceiling
-raised-fits {p} {exit} {i} {ceiling} {target} S e = (raise-above ceiling target (getD p i 0) (sym (S .kind) ∙ e)) .1
+pub raised-fits : {p exit : List ℕ} {i : ℕ} (ceiling target : ℕ) {v : Found} → RelaxedAt p i target (theory.relax ceiling target 0) v exit → kindOf v ≡ theory.raise → target ≤ ceiling
+raised-fits ceiling target S e = (raise-above ceiling target 0 (sym (S .kind) ∙ e)) .1
 
--- a relaxation that goes to the larger of pressure and required pressure, by what it found
-module _ {p exit : List ℕ} {i ceiling target : ℕ} {v : Found} (required : ℕ) (S : RelaxedAt p i target ceiling v exit)
-    (t : target ≡ max (getD p i 0) required) where
-  found : kindOf v ≡ theory.relax ceiling required (getD p i 0)
-  found = S .kind ∙ ap (λ (r : ℕ). theory.relax ceiling r (getD p i 0)) t ∙ relax-target ceiling required (getD p i 0)
+-- a relaxation by what it found: where the cell is raised to is what it requires
+module _ {p exit : List ℕ} {i target : ℕ} {v : Found} (ceiling required : ℕ) (S : RelaxedAt p i target (theory.relax ceiling target 0) v exit)
+    (t : target ≡ raiseTo required (getD p i 0)) where
+  found : RelaxedAt p i required (theory.relax ceiling required (getD p i 0)) v exit
+  found = relaxed-target p i ceiling required (getD p i 0) (rw t at S)
 
   taken : (k : theory.Relaxation) → kindOf v ≡ k → (a : RelaxAnswer) → a ≡ relaxedTo k required p i .answer
-      → fieldAfter k p i target ≡ relaxedTo k required p i .lent → Gives (unrefused (relaxedTo (theory.relax ceiling required (getD p i 0)) required p i)) (answered a) exit
+      → fieldAfter k p i required ≡ relaxedTo k required p i .lent → Gives (unrefused (relaxedTo (theory.relax ceiling required (getD p i 0)) required p i)) (answered a) exit
   taken k e a f g =
-      let h : theory.relax ceiling required (getD p i 0) ≡ k = sym found ∙ e in
-      let w : theory.relax ceiling target (getD p i 0) ≡ k = sym (S .kind) ∙ e in
-      record { answer-is = ap answered (rw h f); lent-is = rw h (rw w at (S .field) ∙ g) }
+      let h : theory.relax ceiling required (getD p i 0) ≡ k = sym (found .kind) ∙ e in
+      record { answer-is = ap answered (rw h f); lent-is = rw h (rw h at (found .field) ∙ g) }
 
   pub gives-quiet : kindOf v ≡ theory.quiet → Gives (unrefused (relaxedTo (theory.relax ceiling required (getD p i 0)) required p i)) (answered quiet) exit
   gives-quiet e = taken theory.quiet e quiet refl refl
@@ -66,9 +64,8 @@ module _ {p exit : List ℕ} {i ceiling target : ℕ} {v : Found} (required : �
 
   pub gives-raised : kindOf v ≡ theory.raise → Gives (unrefused (relaxedTo (theory.relax ceiling required (getD p i 0)) required p i)) (answered (raised target)) exit
   gives-raised e =
-      let r = raise-above ceiling required (getD p i 0) (sym found ∙ e) in
-      let z : target ≡ required = omega (arith, r) in
-      taken theory.raise e (raised target) (ap raised z) (ap (λ (x : ℕ). fieldAfter theory.raise p i x) z)
+      let r = raise-above ceiling required (getD p i 0) (sym (found .kind) ∙ e) in
+      taken theory.raise e (raised target) (ap raised (t ∙ rw (lt-leb _ _ (r .0)))) refl
 
 module _ (f : Film) (p : List ℕ) (i : ℕ) where
   -- the required pressure, from the cell that was loaded

@@ -4,7 +4,8 @@
 // Proved: the field and the counts are those of a relaxation to what the cell requires under the film's rule, read by index.
 ghost use Prim.Native.Nat.{_<_};
 ghost use lib.ListN.{length};
-ghost use Rattle.pointwise.specs.Relaxation.{Room, Stepped};
+ghost use Rattle.monotone.specs.Sweep.{relax};
+ghost use Rattle.pointwise.specs.Relaxation.{Room, Stepped, Relaxes};
 ghost use Rattle.grid.specs.Pull.{Aligned};
 ghost use Rattle.relaxation.specs.Rule.{requiredBy};
 use pointwise::After;
@@ -14,7 +15,7 @@ use pointwise::Found;
 // The relaxation step: the field is written, and the lent counter moves on.
 fn relax_step(field: &mut [u32], at: usize, target: u64, ceiling: u32, c: &mut Counter) -> Found
     requires { ⌜ (at < length (now field)) × Room (now c) ⌝ }
-    ensures { λ r. ⌜ Stepped (now (field .entry)) at target ceiling (now (c .entry)) (record { found = r; counter = now (c .exit) }) (now (field .exit)) ⌝ }
+    ensures { λ r. ⌜ Stepped (now (field .entry)) at target (relax ceiling target 0) (now (c .entry)) (record { found = r; counter = now (c .exit) }) (now (field .exit)) ⌝ }
 {
     let found = pointwise::relax_at(field, at, target, ceiling);
     *c = pointwise::counted(*c, found);
@@ -24,7 +25,7 @@ fn relax_step(field: &mut [u32], at: usize, target: u64, ceiling: u32, c: &mut C
 // The relaxation step with plain parameters: the counter is lent from a local.
 pub fn stepped(field: &mut [u32], at: usize, target: u64, ceiling: u32, c: Counter) -> After
     requires { ⌜ (at < length (now field)) × Room c ⌝ }
-    ensures { λ r. ⌜ Stepped (now (field .entry)) at target ceiling c r (now (field .exit)) ⌝ }
+    ensures { λ r. ⌜ Stepped (now (field .entry)) at target (relax ceiling target 0) c r (now (field .exit)) ⌝ }
 {
     let mut counter = c;
     let found = relax_step(field, at, target, ceiling, &mut counter);
@@ -45,7 +46,7 @@ pub fn relaxed(
 ) -> After
     requires { ⌜ Aligned columns (now diagonals) (now rights) (now ups) (now sources) (now field) ⌝ }
     requires { ⌜ (at < length (now field)) × Room c ⌝ }
-    ensures { λ r. ⌜ Stepped (now (field .entry)) at (requiredBy columns (now (diagonals .entry)) (now (rights .entry)) (now (ups .entry)) (now (sources .entry)) (now (field .entry)) at) ceiling c r (now (field .exit)) ⌝ }
+    ensures { λ r. ⌜ Relaxes (now (field .entry)) at (requiredBy columns (now (diagonals .entry)) (now (rights .entry)) (now (ups .entry)) (now (sources .entry)) (now (field .entry)) at) ceiling c r (now (field .exit)) ⌝ }
 {
     let pressure = field[at];
     let target = grid::cell_at(diagonals, rights, ups, sources, columns, &field[..], at).raise(

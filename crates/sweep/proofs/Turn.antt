@@ -13,7 +13,7 @@ use Rattle.monotone.specs.Sweep as theory
 use Rattle.monotone.proofs.Sweep.{Seen, was-quiet, was-raise, was-exceed, see}
 use Rattle.monotone.proofs.Steps.{Going, going-begin, going-stopped, going-quiet, going-done, going-raise, going-over}
 use Rattle.grid.specs.Pull.{Aligned}
-use Rattle.pointwise.specs.Relaxation.{Room, kindOf, fieldAfter, countAfter, Stepped}
+use Rattle.pointwise.specs.Relaxation.{Room, kindOf, fieldAfter, countAfter, Relaxes}
 use Rattle.sweep.specs.Sweep.{Listed, orderIn, stateOf, foundAt, Advanced, answerOf, counterOf, Ends}
 use Rattle.pointwise.specs.Relaxation.{judgeBy}
 use Rattle.pointwise.specs.declared.Counter.{Counter}
@@ -25,7 +25,7 @@ use Rattle.sweep.specs.declared.Swept.the-variants as ends
 
 -- the relaxation of the cell at a place, judged
 pub advanced-by : (table p : List ℕ) (ceiling : ℕ) (required : List ℕ → ℕ → ℕ) (place : ℕ) (c : Counter) (at : ℕ) (a : After) (r : Step) (exit : List ℕ)
-    → at ≡ orderIn table place → Stepped p at (required p at) ceiling c a exit → r ≡ judgeBy (kindOf (a .found)) (length table) at (a .counter)
+    → at ≡ orderIn table place → Relaxes p at (required p at) ceiling c a exit → r ≡ judgeBy (kindOf (a .found)) (length table) at (a .counter)
     → Advanced (record { size = length table; ceiling = ceiling; required = required }) table p place c r exit
 advanced-by table p ceiling required place c at a r exit e S j =
     record { answer = rw (← e) (rw (S .relaxed .kind, S .counter) at j); field = rw (← e) (S .relaxed .field) }

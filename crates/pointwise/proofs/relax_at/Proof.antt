@@ -2,29 +2,16 @@
 use mathlib.Core.Path.{refl}
 use native.Mathlib.Omega.{arith}
 use borrow.Author.Needs.{needs}
-use denote.Ref.{now}
-use lib.ListN.{getD}
 use Rattle.monotone.specs.Sweep.{quiet, raise, exceed}
 use Rattle.pointwise.proofs.Relaxation.{is-quiet, is-raise, is-exceed, relaxed-at}
 use Rattle.pointwise.proofs.relax_at.Statement.{statement}
 use Rattle.pointwise.proofs.relax_at.Tie as tie
 
-mul-pressure : tie.Need-mul-pressure
-mul-pressure c = search needs
-
-slice-read-pressure : tie.Need-slice-read-pressure
-slice-read-pressure c = search needs
-
-cast-if1 : tie.Need-cast-if1
-cast-if1 c = omega (arith, c .slice-known .given (c .before .args .at))
-
 returns : tie.Need-returns
-returns c =
-    let a = c .before .before .args in
-    relaxed-at quiet (is-quiet (a .ceiling) (a .target) (getD (now (a .field)) (a .at) 0) (omega (arith, c .if1 .taken))) refl refl
+returns c = let a = c .before .args in relaxed-at quiet (is-quiet (a .ceiling) (a .target) 0 (omega (arith, c .if1 .taken))) refl refl
 
 returns-2 : tie.Need-returns-2
-returns-2 c = relaxed-at exceed (is-exceed _ _ _ (c .before .if1 .left) (c .if2 .taken)) refl refl
+returns-2 c = relaxed-at exceed (is-exceed _ _ 0 (omega (arith, c .before .if1 .left)) (c .if2 .taken)) refl refl
 
 cast-field : tie.Need-cast-field
 cast-field c = search needs
@@ -39,19 +26,9 @@ same-length : tie.Need-same-length
 same-length c = search needs
 
 returns-3 : tie.Need-returns-3
-returns-3 c = relaxed-at raise (is-raise _ _ _ (c .before .if1 .left) (c .if2 .left)) refl refl
+returns-3 c = relaxed-at raise (is-raise _ _ 0 (omega (arith, c .before .if1 .left)) (c .if2 .left)) refl refl
 
 pub relax-at-spec : {M : Type 1} → statement M
 relax-at-spec =
     tie.close
-    (tie.spec
-    mul-pressure
-    slice-read-pressure
-    cast-if1
-    returns
-    returns-2
-    cast-field
-    mul-field
-    slice-write-field
-    same-length
-    returns-3)
+    (tie.spec returns returns-2 cast-field mul-field slice-write-field same-length returns-3)

@@ -42,6 +42,7 @@ use denote.Triple.Spec.{Meets, tripleOf}
 use denote.Triple.Table.{entered, cited}
 use denote.Triple.Walked.{says, needs, Stays, stay-ref, stay-none, gave-slice, walkOf, goes-none, goes-ref, goes-gave-slice, Walks, ends-at, walked, walk-meets}
 use denote.Exit.{yes}
+use Rattle.monotone.specs.Sweep.{relax}
 use Rattle.pointwise.specs.Relaxation.{kindOf, countAfter, Room, RelaxedAt}
 use Rattle.pointwise.specs.declared.Found.{Found}
 use Rattle.pointwise.specs.declared.Counter.{Counter}
@@ -120,7 +121,7 @@ module _ {M : Type 1} (𝓤 : URA M) (H : Heap 𝓤) (A : Atoms 𝓤) (W : Given
       → ent 𝓤 (ensured 𝓤 H A counted.ended (counted.clauses 𝓤 H A at-mem run) tt (h, (y, tt)) tt r) (fact 𝓤 (r ≡ countAfter (kindOf y) h))
   counted-said y r = exE 𝓤 _ (λ ws. snd∗ 𝓤 (sem 𝓤 H A (lasts counted.ended tt (h, (y, tt)) ws)) (fact 𝓤 (r ≡ countAfter (kindOf y) h)))
 
-  exits : (y : Found) (w : Val) → Is S.the-row y (w ∷ []) → (zs : List ℕ) (r : Counter) → length zs ≡ length (f .now) → RelaxedAt (f .now) n t k y zs
+  exits : (y : Found) (w : Val) → Is S.the-row y (w ∷ []) → (zs : List ℕ) (r : Counter) → length zs ≡ length (f .now) → RelaxedAt (f .now) n t (relax k t 0) y zs
       → r ≡ countAfter (kindOf y) h
       → ent 𝓤 (⋆ 𝓤 H A (‵ (fobs γ (T.the-row .coded .code r)) ∷ ‵ (fbor κ′ (Body (mem T.the-row) b o γ)) ∷ ‵ (flft κ′ q′) ∷ (‵ (flft κ q) ⊛ ‵ ftrue) ∷ ‵ (finally u32 (f .name) zs) ∷ [])) (Post w)
   exits y w isʸ zs r l e eʳ =
@@ -162,9 +163,9 @@ module _ {M : Type 1} (𝓤 : URA M) (H : Heap 𝓤) (A : Atoms 𝓤) (W : Given
         await ! tt $ pick ! (λ y.
         split ! $ move ! (1 ∷ []) $
         use1 W (some (λ (zs : List ℕ × (Unit {0} × (Unit {0} × (Unit {0} × Unit {0})))). ‵ (lasts visited.ended (κ, tt) passed zs)
-        ⊛ raw (fact 𝓤 (RelaxedAt (f .now) n t k y (zs .0))))) (id⊢ 𝓤 _) $
+        ⊛ raw (fact 𝓤 (RelaxedAt (f .now) n t (relax k t 0) y (zs .0))))) (id⊢ 𝓤 _) $
         pick ! (λ zs.
-        split ! $ move ! (1 ∷ []) $ heard ! (RelaxedAt (f .now) n t k y (zs .0)) (λ e. fsplit ! $ fsplit ! $ move ! (1 ∷ []) $ feqL ! (λ l.
+        split ! $ move ! (1 ∷ []) $ heard ! (RelaxedAt (f .now) n t (relax k t 0) y (zs .0)) (λ e. fsplit ! $ fsplit ! $ move ! (1 ∷ []) $ feqL ! (λ l.
         move ! (2 ∷ []) $ split ! $ move ! (1 ∷ []) $ peeks ! S.the-row (Is S.the-row) (shows 𝓤 H A S.the-row) y (w ∷ []) (λ isʸ.
         land ! (from ! (stop !)) (init ! 14 refl (EL.lawful S.the-type S′.the-laws 𝓤 H A W tt .typed y _ isʸ .0)) $ drop ! $
         -- [κ's token; the last list; …; κ′'s token; what the other parameters own; _10; …]

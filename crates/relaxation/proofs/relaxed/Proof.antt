@@ -1,8 +1,12 @@
--- `relaxation::relaxed` meets its contract: a step to the larger of pressure and what is required is a step to what is required (`loaded-serves`).
+-- `relaxation::relaxed` meets its contract: a step to where the loaded cell is raised to is its relaxation (`loaded-serves`).
 use borrow.Author.Needs.{needs}
 use Rattle.relaxation.proofs.Target.{loaded-serves}
 use Rattle.relaxation.proofs.relaxed.Statement.{statement}
 use Rattle.relaxation.proofs.relaxed.Tie as tie
+
+-- the start, from where the cell is loaded
+abbrev start : tie.After-cell-at → tie.Start
+start l = l .before .before .before .before .before .before .before
 
 mul-pressure : tie.Need-mul-pressure
 mul-pressure c = search needs
@@ -26,7 +30,8 @@ returns : tie.Need-returns
 returns c =
     let s = c .before .before in
     let r = s .before .before in
-    loaded-serves _ _ _ _ _ (r .before .cell-at .result) (r .raise .result) (r .before .cell-at .ensures .is) (r .raise .ensures) (s .stepped .ensures)
+    let l = r .before in
+    loaded-serves _ _ _ _ _ (start l .args .ceiling) (l .cell-at .result) (r .raise .result) (l .cell-at .ensures .is) (r .raise .ensures) (s .stepped .ensures)
 
 pub relaxed-spec : {M : Type 1} → statement M
 relaxed-spec =

@@ -45,6 +45,7 @@ use denote.Triple.Spec.{Meets, tripleOf}
 use denote.Triple.Table.{entered, cited}
 use denote.Triple.Walked.{says, needs, Stays, stay-none, gave-slice, walkOf, goes-none, goes-gave-slice, Walks, ends-at, walked, walk-meets}
 use denote.Exit.{yes}
+use Rattle.monotone.specs.Sweep.{relax}
 use Rattle.pointwise.specs.Relaxation.{Room, Stepped}
 use Rattle.pointwise.specs.declared.Found.{Found}
 use Rattle.pointwise.specs.declared.After.{After}
@@ -135,7 +136,7 @@ module _ {M : Type 1} (𝓤 : URA M) (H : Heap 𝓤) (A : Atoms 𝓤) (W : Given
   mach r y = only (LL.vals R.the-type R′.the-laws (made r y))
 
   exits : (y : Found) (zs : List ℕ) (r : Counter) → Is R.the-row (made r y) (mach r y ∷ []) → length zs ≡ length (f .now)
-      → Stepped (f .now) n t k h (made r y) zs
+      → Stepped (f .now) n t (relax k t 0) h (made r y) zs
       → ent 𝓤 (⋆ 𝓤 H A (‵ (flft κ q) ∷ ‵ (finally u32 (f .name) zs) ∷ [])) (Post (mach r y))
   exits y zs r is l e =
       qed W (‵ (flft κ q) ∷ ‵ (finally u32 (f .name) zs) ∷ []) ∵
@@ -187,9 +188,9 @@ module _ {M : Type 1} (𝓤 : URA M) (H : Heap 𝓤) (A : Atoms 𝓤) (W : Given
         await ! tt $ pick ! (λ y.
         split ! $ move ! (1 ∷ []) $
         use1 W (some (λ (zs : Left). ‵ (lasts step.ended (κ, (ν ∷ [], tt)) (passed l₆ γ) zs)
-        ⊛ raw (fact 𝓤 (Stepped (f .now) n t k h (made (counts zs) y) (zs .0))))) (id⊢ 𝓤 _) $
+        ⊛ raw (fact 𝓤 (Stepped (f .now) n t (relax k t 0) h (made (counts zs) y) (zs .0))))) (id⊢ 𝓤 _) $
         pick ! (λ zs.
-        split ! $ move ! (1 ∷ []) $ heard ! (Stepped (f .now) n t k h (made (counts zs) y) (zs .0)) (λ e. fsplit ! $ fsplit ! $ move ! (1 ∷ []) $ feqL ! (λ l.
+        split ! $ move ! (1 ∷ []) $ heard ! (Stepped (f .now) n t (relax k t 0) h (made (counts zs) y) (zs .0)) (λ e. fsplit ! $ fsplit ! $ move ! (1 ∷ []) $ feqL ! (λ l.
         move ! (1 ∷ []) $ fsplit3 ! $ drop ! $ drop ! $ fsplit3 ! $ drop ! $
         -- [the counter's last value; true; the last list; the tokens and the result; true; …; the lender's part; _11; …]
         move ! (3 ∷ []) $ split ! $ move ! (1 ∷ []) $ peeks ! S.the-row (Is S.the-row) (shows 𝓤 H A S.the-row) y (w ∷ []) (λ isʷ.

@@ -1,4 +1,4 @@
--- `Cell::raise` meets its contract: a cell whose slack is not negative keeps its pressure, any other gets what it requires.
+-- `Cell::raise` meets its contract: a cell whose slack is not negative has nothing to be raised to, any other gets what it requires.
 use mathlib.Core.Path.{_∙_}
 use native.Mathlib.Omega.{arith}
 use borrow.Author.Needs.{needs}
