@@ -1,5 +1,5 @@
 // The tests of the calls that take coefficients, in document 01's order: refusals 4, 5, 10, 14, 6, 9, 11, 12 and 13. The tests themselves
-// are in crates `refusals`, `limits` and `dominance`. Internal: other crates of Film call it before they do anything else, so that a
+// are in crates `refusals`, `list_tests`, `limits` and `dominance`. Internal: other crates of Film call it before they do anything else, so that a
 // refused call changes nothing.
 //
 // Proved: what each test finds, read as the model's check by `checkOf`, equals the check that crate `model` defines, for all values
@@ -28,7 +28,7 @@ fn value_tests(
 {
     match limits::coefficient_test(head, diagonals, rights, ups, sources) {
         Tested::Fine => {
-            let weight = refusals::weight_test(weights, 0, 1);
+            let weight = list_tests::weight_test(weights, 0, 1);
             let row_sum = dominance::dominance_test(head, weights, diagonals, rights, ups);
             refusals::or_else(weight, row_sum)
         }
@@ -77,7 +77,7 @@ pub fn field_tests(
 {
     let whole = field.len() == shape::area(head.rows, head.columns);
     let film = film_tests(head, weights, diagonals, rights, ups, sources, whole & fits);
-    let start = refusals::start_test(field, head.ceiling);
+    let start = list_tests::start_test(field, head.ceiling);
     refusals::or_else(
         film,
         refusals::or_else(order, refusals::or_else(start, place)),

@@ -5,14 +5,9 @@
 // Proved: what a field's test finds is what crate `model` says of the field with that tag, and where it passes the next field stands
 // behind this one (`Tries`), at every offset of every file. Values are tested once the whole body is there (crate `values`); so no file that
 // is cut short needs a case of its own.
-ghost use mathlib.Core.Path.{_≡_};
 ghost use Prim.Native.Nat.{_≤_};
-ghost use Rattle.model.specs.Refusals.{checkOf};
-ghost use Rattle.model.specs.Fields.{fieldAt};
 ghost use Rattle.model.specs.File.{shapeField, ceilingField, weightsField, thicknessesField, wedgeField};
 ghost use Rattle.fields.specs.Tags.{unknown, fieldFor, Tries, Room};
-use fault::Fault;
-use model::Refusal;
 use model::Tested;
 
 // What the test of a field has found, and the offset behind the field.
@@ -28,32 +23,12 @@ const CEILING_LENGTH: usize = 4;
 
 const WEDGE_LENGTH: usize = 4;
 
-// Refusals 1, 2 and 3: a header at `at`, with that tag and that length, and the whole body after it.
-fn header_test(file: &[u8], at: usize, tag: u8, size: usize) -> Tested
-    requires { ⌜ (at ≤ 1000000) × (size ≤ 1000000) ⌝ }
-    ensures { λ r. ⌜ checkOf r ≡ fieldAt (now (file .entry)) at tag size ⌝ }
-{
-    let end = file.len();
-    if end < at + 3 {
-        return Tested::Refused(Refusal {
-            fault: Fault::Truncated,
-            place: end,
-        });
-    }
-    let from = at + 1;
-    let length = words::numbers::first_word(&file[from..]) as usize;
-    let unexpected = refusals::fail_if(file[at] != tag, Fault::Unexpected, at);
-    let wrong_length = refusals::fail_if(length != size, Fault::WrongLength, at);
-    let body = refusals::fail_if(end < at + 3 + size, Fault::Truncated, end);
-    refusals::or_else(unexpected, refusals::or_else(wrong_length, body))
-}
-
 // Field 01 at `at`, where that tag should stand: header and, where that passes, values.
 fn shape_field(file: &[u8], at: usize, tag: u8) -> Walked
     requires { ⌜ at ≤ 800000 ⌝ }
     ensures { λ w. ⌜ Tries shapeField tag (now (file .entry)) at w ⌝ }
 {
-    match header_test(file, at, tag, SHAPE_LENGTH) {
+    match headers::header_test(file, at, tag, SHAPE_LENGTH) {
         Tested::Fine => Walked {
             tested: values::shape_values(file, at + 3),
             next: at + 3 + SHAPE_LENGTH,
@@ -70,7 +45,7 @@ fn ceiling_field(file: &[u8], at: usize, tag: u8) -> Walked
     requires { ⌜ at ≤ 800000 ⌝ }
     ensures { λ w. ⌜ Tries ceilingField tag (now (file .entry)) at w ⌝ }
 {
-    match header_test(file, at, tag, CEILING_LENGTH) {
+    match headers::header_test(file, at, tag, CEILING_LENGTH) {
         Tested::Fine => Walked {
             tested: values::ceiling_values(file, at + 3),
             next: at + 3 + CEILING_LENGTH,
@@ -87,7 +62,7 @@ fn weights_field(file: &[u8], at: usize, tag: u8, n: usize) -> Walked
     requires { ⌜ (at ≤ 800000) × (n ≤ 65025) ⌝ }
     ensures { λ w. ⌜ Tries (weightsField n) tag (now (file .entry)) at w ⌝ }
 {
-    match header_test(file, at, tag, 2 * n) {
+    match headers::header_test(file, at, tag, 2 * n) {
         Tested::Fine => Walked {
             tested: values::weight_values(file, at + 3, n),
             next: at + 3 + 2 * n,
@@ -104,7 +79,7 @@ fn thicknesses_field(file: &[u8], at: usize, tag: u8, t: usize) -> Walked
     requires { ⌜ (at ≤ 800000) × (t ≤ 66049) ⌝ }
     ensures { λ w. ⌜ Tries (thicknessesField t) tag (now (file .entry)) at w ⌝ }
 {
-    match header_test(file, at, tag, t) {
+    match headers::header_test(file, at, tag, t) {
         Tested::Fine => Walked {
             tested: values::thickness_values(file, at + 3, t),
             next: at + 3 + t,
@@ -121,7 +96,7 @@ fn wedge_field(file: &[u8], at: usize, tag: u8) -> Walked
     requires { ⌜ at ≤ 800000 ⌝ }
     ensures { λ w. ⌜ Tries wedgeField tag (now (file .entry)) at w ⌝ }
 {
-    match header_test(file, at, tag, WEDGE_LENGTH) {
+    match headers::header_test(file, at, tag, WEDGE_LENGTH) {
         Tested::Fine => Walked {
             tested: values::wedge_values(file, at + 3),
             next: at + 3 + WEDGE_LENGTH,
@@ -139,7 +114,7 @@ fn no_field(file: &[u8], at: usize, tag: u8) -> Walked
     ensures { λ w. ⌜ Tries unknown tag (now (file .entry)) at w ⌝ }
 {
     Walked {
-        tested: header_test(file, at, tag, 0),
+        tested: headers::header_test(file, at, tag, 0),
         next: at + 3,
     }
 }

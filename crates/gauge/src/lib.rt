@@ -72,7 +72,7 @@ fn number_tests(head: Head, weights: &[u16], thicknesses: &[u8], wedge: i32) -> 
 {
     let end = 15 + 2 * weights.len(); // behind the weights; a body stands three bytes behind its tag
     let ceiling = refusals::ceiling_test(head.ceiling, 8);
-    let weight = refusals::weight_test(weights, 15, 2);
+    let weight = list_tests::weight_test(weights, 15, 2);
     let thickness = thicknesses_test(thicknesses, end + 3);
     let wedge_found = wedge_test(wedge, end + 3 + thicknesses.len() + 3);
     refusals::or_else(

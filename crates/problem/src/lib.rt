@@ -55,7 +55,7 @@ pub fn relax(
 ) -> Relaxed
     ensures { λ r. ⌜ Gives (relaxCall (filmOf head (now (weights .entry)) (now (diagonals .entry)) (now (rights .entry)) (now (ups .entry)) (now (sources .entry))) (now (field .entry)) at) (relaxAnswerOf r) (now (field .exit)) ⌝ }
 {
-    let place = refusals::cell_test(head, at);
+    let place = list_tests::cell_test(head, at);
     match checks::field_tests(
         head,
         weights,
@@ -86,7 +86,7 @@ pub fn slack(
 ) -> Slack
     ensures { λ r. ⌜ slackAnswerOf r ≡ slackCall (filmOf head (now (weights .entry)) (now (diagonals .entry)) (now (rights .entry)) (now (ups .entry)) (now (sources .entry))) (now (field .entry)) at ⌝ }
 {
-    let inside = refusals::cell_test(head, at);
+    let inside = list_tests::cell_test(head, at);
     match checks::field_tests(
         head,
         weights,

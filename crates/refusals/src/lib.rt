@@ -1,16 +1,13 @@
-// How a refusal is made, which of two comes first, and the tests that read no coefficients: shape, ceiling, lengths, weights, start,
-// ordering, line and cell. Internal: crates `checks`, `gauge` and `fields` put them into document 01's order, for calls that take
-// coefficients, for a film's numbers and for files. A place is the caller's to say: 0, a cell or an offset.
+// How a refusal is made, which of two comes first, and the tests of single numbers: shape, ceiling, lengths, ordering and line. Internal:
+// crates `checks`, `gauge` and `values` put them into document 01's order, for calls that take coefficients, for a film's numbers and for
+// files. A place is the caller's to say: 0, a cell or an offset.
 //
 // Proved: what each test finds, read as the model's check by `checkOf`, equals the check that crate `model` defines. proofs/Search has
 // the search for the lowest place, proofs/Rows the same row by row, and proofs/Chain how a call that matches on a test goes on.
 ghost use mathlib.Core.Path.{_≡_};
 ghost use mathlib.Core.Bool.{not};
-ghost use Prim.Native.Nat.{_+_, _*_, _≤_};
-ghost use lib.Dec.{ltb, leb, eqb};
-ghost use lib.ListN.{length, getD};
 ghost use Rattle.fault.specs.Numbers.{numberOf};
-ghost use Rattle.model.specs.Refusals.{checkOf, failIf, failFirst, _orElse_};
+ghost use Rattle.model.specs.Refusals.{checkOf, failIf, _orElse_};
 ghost use Rattle.model.specs.Checks.{outside as outsideOf, shapeCheck, ceilingCheck, orderCheck};
 use fault::Fault;
 use model::Head;
@@ -90,14 +87,6 @@ pub fn line_test(head: Head, line: u32) -> Tested
     range_test(line, 1, head.rows, Fault::OutOfGrid, 0)
 }
 
-// Refusal 13, of a cell.
-pub fn cell_test(head: Head, at: usize) -> Tested
-    ensures { λ r. ⌜ checkOf r ≡ failIf (leb (head .rows * head .columns) at) 13 0 ⌝ }
-{
-    let n = shape::area(head.rows, head.columns);
-    fail_if(n <= at, Fault::OutOfGrid, 0)
-}
-
 // Refusals 4, 5 and 10: the shape, the ceiling, and whether the lent slices have their lengths.
 pub fn size_test(head: Head, fits: bool) -> Tested
     ensures { λ r. ⌜ checkOf r ≡ (shapeCheck (head .rows) 0 (head .columns) 0 orElse ceilingCheck (head .ceiling) 0 orElse failIf (not fits) 10 0) ⌝ }
@@ -108,39 +97,4 @@ pub fn size_test(head: Head, fits: bool) -> Tested
         shape,
         or_else(ceiling, fail_if(!fits, Fault::WrongBuffer, 0)),
     )
-}
-
-// Refusal 6, at the lowest cell's place: the places begin at `from`, `step` apart.
-pub fn weight_test(weights: &[u16], from: usize, step: usize) -> Tested
-    requires { ⌜ from + step * length (now weights) ≤ 1000000 ⌝ }
-    ensures { λ r. ⌜ checkOf r ≡ failFirst (λ i. eqb (getD (now (weights .entry)) i 0) 0) (length (now (weights .entry))) 6 (λ i. from + step * i) ⌝ }
-{
-    let mut i = 0;
-    while i < weights.len() {
-        if weights[i] == 0 {
-            return Tested::Refused(Refusal {
-                fault: Fault::ZeroWeight,
-                place: from + step * i,
-            });
-        }
-        i += 1;
-    }
-    Tested::Fine
-}
-
-// Refusal 12, at the lowest cell.
-pub fn start_test(field: &[u32], ceiling: u32) -> Tested
-    ensures { λ r. ⌜ checkOf r ≡ failFirst (λ i. ltb ceiling (getD (now (field .entry)) i 0)) (length (now (field .entry))) 12 (λ i. i) ⌝ }
-{
-    let mut i = 0;
-    while i < field.len() {
-        if ceiling < field[i] {
-            return Tested::Refused(Refusal {
-                fault: Fault::StartAboveCeiling,
-                place: i,
-            });
-        }
-        i += 1;
-    }
-    Tested::Fine
 }

@@ -1,26 +1,18 @@
--- Parts of a file: its first word, and a list of bytes in it.
+-- A part of a file: a list of bytes in it.
 use mathlib.Core.Path.{_≡_, ap, _∙_}
 use mathlib.Core.List.{List}
 use Prim.Native.Nat.{ℕ, _+_, _-_, _≤_, _<_}
-use native.Mathlib.Nat.{add-zero}
 use native.Mathlib.Omega.{arith}
 use lib.ListN.{length, getD, take, drop, length-drop}
-use lib.Seq.{take-all, length-take-le, getD-take, getD-drop}
+use lib.Seq.{length-take-le, getD-take, getD-drop}
 use Rattle.model.specs.Limits.{thicknessLimit}
 use Rattle.model.specs.Lists.{tabulate}
 use Rattle.model.specs.Refusals.{failFirst}
 use Rattle.model.specs.Checks.{outside}
-use Rattle.model.specs.Bytes.{byteAt, wordAt}
+use Rattle.model.specs.Bytes.{byteAt}
 use Rattle.model.specs.File.{thicknessesFrom}
 use Rattle.model.proofs.Lists.{tabulate-is}
 use Rattle.model.proofs.Checks.{failFirst-same}
-
--- a file from an offset on, and its first word
-pub rest : (l : List ℕ) (at : ℕ) → take (length l - at) (drop at l) ≡ drop at l
-rest l at = take-all (length l - at) (drop at l) (omega (arith, length-drop at l))
-
-pub word-from : (l : List ℕ) (at : ℕ) → wordAt (take (length l - at) (drop at l)) 0 ≡ wordAt l at
-word-from l at = rw (rest l at) (simp (getD-drop, add-zero))
 
 -- t bytes from an offset on
 module _ (l : List ℕ) (at t : ℕ) (h : at + t ≤ length l) where

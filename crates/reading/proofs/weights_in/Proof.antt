@@ -8,7 +8,7 @@ use lib.ListN.{length-drop}
 use Rattle.grid.proofs.Fill.{Filled, fill-none, fill-more}
 use Rattle.model.specs.Bytes.{wordAt}
 use Rattle.model.specs.File.{weightsOffset}
-use Rattle.values.proofs.Parts.{rest, word-from}
+use Rattle.words.proofs.Rest.{rest, word-from}
 use Rattle.reading.proofs.weights_in.Statement.{statement}
 use Rattle.reading.proofs.weights_in.Tie as tie
 

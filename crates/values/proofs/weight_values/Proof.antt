@@ -9,7 +9,7 @@ use lib.Dec.{eqb}
 use lib.ListN.{length-drop}
 use Rattle.model.specs.Bytes.{wordAt}
 use Rattle.refusals.proofs.Search.{Searched, search-begins, search-next, search-fails, search-passes}
-use Rattle.values.proofs.Parts.{rest, word-from}
+use Rattle.words.proofs.Rest.{rest, word-from}
 use Rattle.values.proofs.weight_values.Statement.{statement}
 use Rattle.values.proofs.weight_values.Tie as tie
 

@@ -1,4 +1,4 @@
--- `refusals::weight_test` meets its contract: a search, whose places stay below the bound that the caller grants.
+-- `list_tests::weight_test` meets its contract: a search, whose places stay below the bound that the caller grants.
 use mathlib.Core.Path.{refl}
 use Prim.Native.Nat.{_+_, _-_, _*_, _≤_}
 use native.Mathlib.Nat.{le-of-lt, mul-le-mul-left}
@@ -7,9 +7,9 @@ use borrow.Author.Needs.{needs}
 use borrow.Author.Tests.{eq-eqb, ne-eqb}
 use lib.Dec.{eqb}
 use lib.ListN.{length, getD}
 use Rattle.refusals.proofs.Search.{Searched, search-begins, search-next, search-fails, search-passes}
-use Rattle.refusals.proofs.weight_test.Statement.{statement}
-use Rattle.refusals.proofs.weight_test.Tie as tie
+use Rattle.list_tests.proofs.weight_test.Statement.{statement}
+use Rattle.list_tests.proofs.weight_test.Tie as tie
 
 abbrev Inv-loop : tie.InvT-loop
 Inv-loop weights from step i₀ i = Searched (λ k. eqb (getD weights k 0) 0) (length weights) i

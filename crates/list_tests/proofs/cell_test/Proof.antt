@@ -1,7 +1,7 @@
--- `refusals::cell_test` meets its contract: what `area` returns is rows × columns, and `fail_if` refuses an index from there on.
+-- `list_tests::cell_test` meets its contract: what `area` returns is rows × columns, and `fail_if` refuses an index from there on.
 use borrow.Author.Needs.{needs}
-use Rattle.refusals.proofs.cell_test.Statement.{statement}
-use Rattle.refusals.proofs.cell_test.Tie as tie
+use Rattle.list_tests.proofs.cell_test.Statement.{statement}
+use Rattle.list_tests.proofs.cell_test.Tie as tie
 
 area-requires : tie.Need-area-requires
 area-requires c κs = search needs

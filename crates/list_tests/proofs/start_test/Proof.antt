@@ -1,13 +1,13 @@
--- `refusals::start_test` meets its contract: a search (`Searched`) whose test is the ceiling against the cell's pressure, and whose place is the cell.
+-- `list_tests::start_test` meets its contract: a search (`Searched`) whose test is the ceiling against the cell's pressure, and whose place is the cell.
 use mathlib.Core.Path.{refl}
 use Prim.Native.Nat.{_-_}
 use borrow.Author.Needs.{needs}
 use borrow.Author.Tests.{lt-ltb, le-ltb}
 use lib.Dec.{ltb}
 use lib.ListN.{length, getD}
 use Rattle.refusals.proofs.Search.{Searched, search-begins, search-next, search-fails, search-passes}
-use Rattle.refusals.proofs.start_test.Statement.{statement}
-use Rattle.refusals.proofs.start_test.Tie as tie
+use Rattle.list_tests.proofs.start_test.Statement.{statement}
+use Rattle.list_tests.proofs.start_test.Tie as tie
 
 abbrev Inv-loop : tie.InvT-loop
 Inv-loop field ceiling i₀ i = Searched (λ k. ltb ceiling (getD field k 0)) (length field) i

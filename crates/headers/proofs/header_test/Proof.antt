@@ -1,4 +1,4 @@
--- `fields::header_test` meets its contract: its tests are those of `fieldAt`, in its order; where the header is there, they are made of the
+-- `headers::header_test` meets its contract: its tests are those of `fieldAt`, in its order; where the header is there, they are made of the
 -- byte and the word that stand in it.
 use mathlib.Core.Path.{_∙_}
 use Prim.Native.Nat.{_+_}
@@ -6,10 +6,10 @@ use borrow.Author.Tests.{lt-ltb, le-ltb}
 use denote.Ref.{now}
 use Rattle.model.specs.Fields.{fieldAt}
 use Rattle.refusals.proofs.Chain.{joined}
-use Rattle.values.proofs.Parts.{word-from}
+use Rattle.words.proofs.Rest.{word-from}
 use borrow.Author.Needs.{needs}
-use Rattle.fields.proofs.header_test.Statement.{statement}
-use Rattle.fields.proofs.header_test.Tie as tie
+use Rattle.headers.proofs.header_test.Statement.{statement}
+use Rattle.headers.proofs.header_test.Tie as tie
 
 add-if1 : tie.Need-add-if1
 add-if1 c = search needs
