@@ -1,7 +1,6 @@
 //! Finds the archive of the proved library and links it. Where it is missing, or older than the
-//! sources that it is proved from, `rt staticlib film_c` proves and writes it first.
+//! sources that it is proved from, `bindings/archive` proves and writes it first.
 
-use std::io::ErrorKind;
 use std::path::{Path, PathBuf};
 use std::process::{exit, Command};
 use std::time::SystemTime;
@@ -10,8 +9,8 @@ use std::{env, fs, io};
 fn main() {
     let top = top();
     let folder = top.join("target/staticlib");
-    let archive = folder.join("libfilm_c.a");
-    let sources = [top.join("crates"), top.join("crates.txt")];
+    let archive = folder.join("libfilm.a");
+    let sources = ["crates", "crates.txt", "bindings/archive"].map(|source| top.join(source));
     if !is_fresh(&archive, &sources) {
         prove(&top);
     }
@@ -19,7 +18,7 @@ fn main() {
         println!("cargo:rerun-if-changed={}", watched.display());
     }
     println!("cargo:rustc-link-search=native={}", folder.display());
-    println!("cargo:rustc-link-lib=static=film_c");
+    println!("cargo:rustc-link-lib=static=film");
 }
 
 /// The top of the tree: the folder above this package's.
@@ -65,22 +64,16 @@ fn is_source(path: &Path) -> bool {
 
 /// Proves the library and writes its archive.
 fn prove(top: &Path) {
-    match Command::new("rt")
-        .args(["staticlib", "film_c"])
-        .current_dir(top)
-        .output()
-    {
+    match Command::new(top.join("bindings/archive")).output() {
         Ok(output) if output.status.success() => {}
         Ok(output) => {
-            eprint!("{}", String::from_utf8_lossy(&output.stdout));
             eprint!("{}", String::from_utf8_lossy(&output.stderr));
-            fail("rt staticlib film_c failed: the library is not proved, so there is none to link");
+            fail(
+                "target/staticlib/libfilm.a is missing or older than its sources, and \
+                 bindings/archive, which makes it, failed",
+            );
         }
-        Err(error) if error.kind() == ErrorKind::NotFound => fail(
-            "target/staticlib/libfilm_c.a is missing or older than its sources, and rt, which makes \
-             it, is not on the PATH. Put the Rattle kit's rt there and build again",
-        ),
-        Err(error) => fail(&format!("rt could not be started: {error}")),
+        Err(error) => fail(&format!("bindings/archive could not be started: {error}")),
     }
 }
 

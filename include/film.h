@@ -1,4 +1,4 @@
-/* Film's public calls for C: the header of the archive that `rt staticlib film_c` writes (target/staticlib/libfilm_c.a).
+/* Film's public calls for C: the header of the archive that `bindings/archive` writes (target/staticlib/libfilm.a).
  *
  * A film has R rows and C columns of cells, N = R * C, and T = (R + 2) * (C + 2) thicknesses, the boundary ring included. Cells are
  * counted from 0, row by row; lines from 1 to R.

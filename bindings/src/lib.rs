@@ -4,7 +4,7 @@
 //! thicknesses the library forms the coefficients of Reynolds' difference equation with cavitation,
 //! and finds the least whole-step pressure field that they allow, by monotone relaxation.
 //!
-//! The work is done by the library `film_c`, whose calls are proved: for every input, each answers
+//! The work is done by the library `libfilm.a`, whose calls are proved: for every input, each answers
 //! what the specification says, or names one refusal and changes nothing. This package holds a
 //! film's numbers and gives the calls Rust's types.
 //!

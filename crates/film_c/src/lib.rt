@@ -1,12 +1,12 @@
-// Film for C and Rust: the public calls as C functions, on numbers and lent slices. include/film.h documents them for their caller.
-// Each returns 0 if the call answered, else the number of its refusal. A refusal writes its place and changes nothing else; an
-// answer leaves the place as it was.
+// Film for C and Rust: the public calls from a film's file to its runs and its report, as C functions on numbers and lent slices; crate
+// `film_c_steps` has those for a cell or a line. include/film.h documents them for their caller. Each returns 0 if the call answered, else the
+// number of its refusal. A refusal writes its place and changes nothing else; an answer leaves the place as it was.
 //
 // A film's shape and ceiling travel as one head, lent as an array of numbers: what a later film has beside them joins the array, and no call
 // gets another parameter.
 //
 // Proved: the returned number, and what each lent number, array and slice holds at exit, are those that crate `model` gives the call
-// (slackCall, runCall, Loads, ..), told as specs/ of crates `tell`, `tell_files` and `told` say. As the calls themselves, they ask nothing of
+// (runCall, Loads, ..), told as specs/ of crates `tell`, `tell_files`, `archive` and `told` say. As the calls themselves, they ask nothing of
 // their caller.
-mod numbers; // numbers.rt: the calls on a film as coefficients
 mod files; // files.rt: the calls on film files and on a film's own numbers
+mod runs; // runs.rt: the run

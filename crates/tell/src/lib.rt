@@ -3,7 +3,7 @@
 // into the numbers and arrays that the caller lent. The film's slices are not seen here, nor is the field: the call itself writes those.
 // Crate `tell_files` does the same for the calls on film files, and `told` tells a refusal for both.
 //
-// Internal: crate `film_c` calls it, and include/film.h says for C what the numbers mean.
+// Internal: crates `film_c` and `film_c_steps` call it, and include/film.h says for C what the numbers mean.
 //
 // Proved: the number returned is 0 or the refusal's, and each lent number and array holds what specs/ says of the answer. A refusal
 // writes its place and nothing else; an answer leaves the place as it was.

@@ -1,4 +1,4 @@
-//! Compares every call of the library film_c with the test oracle: random films and lists of calls,
+//! Compares every call of the library libfilm.a with the test oracle: random films and lists of calls,
 //! from a seed that is printed.
 
 mod binding;

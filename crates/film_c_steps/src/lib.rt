@@ -1,13 +1,16 @@
-// The calls on a film as coefficients.
+// Film for C and Rust: the public calls for a cell or a line of a film as coefficients, as C functions. As in crate `film_c`, which has runs and the
+// calls on files: the returned number is 0 or the refusal's, and a film's shape and ceiling travel as one head.
+//
+// Proved: the returned number, and what each lent number, array and slice holds at exit, are those that crate `model` gives the call
+// (slackCall, proposeCall, ..), told as specs/ of crates `tell` and `told` say. As the calls themselves, they ask nothing of their caller.
 ghost use Rattle.model.specs.Result.{refusalIn};
 ghost use Rattle.model.specs.Film.{filmOf};
 ghost use Rattle.model.specs.Relaxation.{relaxCall, slackCall};
 ghost use Rattle.model.specs.Margin.{marginCall};
 ghost use Rattle.model.specs.Proposal.{proposeCall};
 ghost use Rattle.model.specs.Estimate.{estimateCall};
-ghost use Rattle.model.specs.Run.{runCall};
 ghost use Rattle.told.specs.Refused.{Told};
-ghost use Rattle.tell.specs.Numbers.{SlackTold, MarginTold, RelaxTold, ProposeTold, RunTold};
+ghost use Rattle.tell.specs.Numbers.{SlackTold, MarginTold, RelaxTold, ProposeTold};
 ghost use Rattle.archive.specs.Lent.{lentHead, Leaves};
 
 // Tells the slack of one cell.
@@ -48,41 +51,6 @@ pub extern "C" fn film_margin(
     let head = archive::head_of(head);
     let answer = line_estimate::margin(head, weights, diagonals, rights, ups, sources);
     tell::margin(answer, margin, place)
-}
-
-// Makes a run: result is 0 for done, 1 for stopped or 2 for over, then visits, raises, and cells raised by proposals; cell is that of Over.
-#[no_mangle]
-pub extern "C" fn film_run(
-    head: &[u32; 3],
-    weights: &[u16],
-    diagonals: &[u32],
-    rights: &[u32],
-    ups: &[u32],
-    sources: &[i64],
-    field: &mut [u32],
-    budget: u32,
-    order: u32,
-    proposals: bool,
-    result: &mut [u32; 4],
-    cell: &mut usize,
-    place: &mut usize,
-) -> u32
-    ensures { λ r. ⌜ Leaves (runCall (filmOf (lentHead (now (head .entry))) (now (weights .entry)) (now (diagonals .entry)) (now (rights .entry)) (now (ups .entry)) (now (sources .entry))) budget order proposals (now (field .entry))) (λ a. RunTold a (now (result .entry)) (now (cell .entry)) (now (place .entry)) r (now (result .exit)) (now (cell .exit)) (now (place .exit))) (now (field .exit)) ⌝ }
-{
-    let head = archive::head_of(head);
-    let answer = run::run(
-        head,
-        weights,
-        diagonals,
-        rights,
-        ups,
-        sources,
-        field,
-        budget,
-        order,
-        proposals,
-    );
-    tell::run(answer, result, cell, place)
 }
 
 // Relaxes one cell: result is 0 for quiet, 1 for raised or 2 for over, then the pressure that it was raised to.

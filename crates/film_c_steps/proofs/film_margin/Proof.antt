@@ -1,8 +1,8 @@
--- `film_c::film_margin` meets its contract: the public call promises its answer for the head that `head_of` makes, and `tell::margin` tells it.
+-- `film_c_steps::film_margin` meets its contract: the public call promises its answer for the head that `head_of` makes, and `tell::margin` tells it.
 use borrow.Author.Needs.{needs}
 use Rattle.archive.proofs.Told.{margin-told}
-use Rattle.film_c.proofs.numbers.film_margin.Statement.{statement}
-use Rattle.film_c.proofs.numbers.film_margin.Tie as tie
+use Rattle.film_c_steps.proofs.film_margin.Statement.{statement}
+use Rattle.film_c_steps.proofs.film_margin.Tie as tie
 
 head-of-requires : tie.Need-head-of-requires
 head-of-requires c κs = search needs

@@ -1,8 +1,8 @@
--- `film_c::film_relax` meets its contract: the public call promises its answer for the head that `head_of` makes, and `tell::relax` tells it.
+-- `film_c_steps::film_relax` meets its contract: the public call promises its answer for the head that `head_of` makes, and `tell::relax` tells it.
 use borrow.Author.Needs.{needs}
 use Rattle.archive.proofs.Told.{leaves}
-use Rattle.film_c.proofs.numbers.film_relax.Statement.{statement}
-use Rattle.film_c.proofs.numbers.film_relax.Tie as tie
+use Rattle.film_c_steps.proofs.film_relax.Statement.{statement}
+use Rattle.film_c_steps.proofs.film_relax.Tie as tie
 
 head-of-requires : tie.Need-head-of-requires
 head-of-requires c κs = search needs

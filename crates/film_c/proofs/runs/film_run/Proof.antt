@@ -1,8 +1,8 @@
 -- `film_c::film_run` meets its contract: the public call promises its answer for the head that `head_of` makes, and `tell::run` tells it.
 use borrow.Author.Needs.{needs}
 use Rattle.archive.proofs.Told.{leaves}
-use Rattle.film_c.proofs.numbers.film_run.Statement.{statement}
-use Rattle.film_c.proofs.numbers.film_run.Tie as tie
+use Rattle.film_c.proofs.runs.film_run.Statement.{statement}
+use Rattle.film_c.proofs.runs.film_run.Tie as tie
 
 head-of-requires : tie.Need-head-of-requires
 head-of-requires c κs = search needs
