@@ -1,69 +1,18 @@
 // The tests of a film's numbers as document 01's film file has them, thicknesses and wedge: refusals 4, 10, 5, 6, 7, 8 and 9, in this
-// order. Internal: the calls that form coefficients and write files begin with it, and the reader takes single tests from it.
+// order. Internal: the calls that form coefficients and write files begin with it.
 //
 // Proved: what each test finds, read as the model's check by `checkOf`, equals the check that crate `model` defines. `gauge_tests` asks
 // nothing of its caller. A refusal's place is the number's place in the film file; that of 9 is the cell, and that of 10 is 0.
 ghost use mathlib.Core.Path.{_≡_};
 ghost use mathlib.Core.Bool.{_&&_};
-ghost use Prim.Native.Nat.{_+_, _≤_};
-ghost use lib.Dec.{ltb};
-ghost use lib.IntN.{natAbs};
-ghost use lib.ListN.{length, getD};
-ghost use Rattle.model.specs.Limits.{thicknessLimit, wedgeLimit};
-ghost use Rattle.model.specs.Refusals.{pass, checkOf, failFirst};
-ghost use Rattle.model.specs.Checks.{outside, shapeCheck};
-ghost use Rattle.model.specs.File.{rowsOffset, columnsOffset, wedgeCheck, gaugeCheck};
+ghost use Rattle.model.specs.Refusals.{pass, checkOf};
+ghost use Rattle.model.specs.Checks.{shapeCheck};
+ghost use Rattle.model.specs.File.{rowsOffset, columnsOffset, gaugeCheck};
 ghost use Rattle.model.specs.FileCalls.{gaugeOf, gaugeFits};
 ghost use Rattle.gauge.specs.Tests.{numbersCheck, valuesCheck, sizedCheck, Measured};
 use fault::Fault;
 use model::Head;
-use model::Refusal;
 use model::Tested;
-
-// The limits of model/specs/Limits.
-const THICKNESS_LIMIT: u32 = 128;
-
-const WEDGE_LIMIT: u64 = 1000000000;
-
-// Whether a thickness is not from 1 to 128.
-fn bad_thickness(thickness: u8) -> bool
-    ensures { λ r. ⌜ r ≡ outside thickness 1 thicknessLimit ⌝ }
-{
-    refusals::outside(thickness as u32, 1, THICKNESS_LIMIT)
-}
-
-// Refusal 7, at the lowest place: the thicknesses begin at offset `at`.
-pub fn thicknesses_test(thicknesses: &[u8], at: usize) -> Tested
-    requires { ⌜ at + length (now thicknesses) ≤ 1000000 ⌝ }
-    ensures { λ r. ⌜ checkOf r ≡ failFirst (λ j. outside (getD (now (thicknesses .entry)) j 0) 1 thicknessLimit) (length (now (thicknesses .entry))) 7 (λ j. at + j) ⌝ }
-{
-    let mut i = 0;
-    while i < thicknesses.len() {
-        if bad_thickness(thicknesses[i]) {
-            return Tested::Refused(Refusal {
-                fault: Fault::BadThickness,
-                place: at + i,
-            });
-        }
-        i += 1;
-    }
-    Tested::Fine
-}
-
-// Whether a wedge number is too far from 0, either way.
-fn far_wedge(wedge: i32) -> bool
-    ensures { λ r. ⌜ r ≡ ltb wedgeLimit (natAbs wedge) ⌝ }
-{
-    let wide = wedge as i64;
-    (WEDGE_LIMIT < cell::positive_part(wide)) | (WEDGE_LIMIT < cell::negative_part(wide))
-}
-
-// Refusal 8.
-pub fn wedge_test(wedge: i32, place: usize) -> Tested
-    ensures { λ r. ⌜ checkOf r ≡ wedgeCheck wedge place ⌝ }
-{
-    refusals::fail_if(far_wedge(wedge), Fault::BadWedge, place)
-}
 
 // Refusals 5, 6, 7 and 8, of a film whose shape and lengths have passed.
 fn number_tests(head: Head, weights: &[u16], thicknesses: &[u8], wedge: i32) -> Tested
@@ -73,8 +22,8 @@ fn number_tests(head: Head, weights: &[u16], thicknesses: &[u8], wedge: i32) -> 
     let end = 15 + 2 * weights.len(); // behind the weights; a body stands three bytes behind its tag
     let ceiling = refusals::ceiling_test(head.ceiling, 8);
     let weight = list_tests::weight_test(weights, 15, 2);
-    let thickness = thicknesses_test(thicknesses, end + 3);
-    let wedge_found = wedge_test(wedge, end + 3 + thicknesses.len() + 3);
+    let thickness = list_tests::thicknesses_test(thicknesses, end + 3);
+    let wedge_found = list_tests::wedge_test(wedge, end + 3 + thicknesses.len() + 3);
     refusals::or_else(
         ceiling,
         refusals::or_else(weight, refusals::or_else(thickness, wedge_found)),

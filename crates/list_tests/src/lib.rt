@@ -1,17 +1,26 @@
-// The tests of lists of numbers and of a cell's index: weights, start and cell. Internal: crates `checks`, `gauge` and `problem` put them into
-// document 01's order. A weight's place is the caller's to say, a cell or an offset.
+// The tests of lists of numbers, and those of a wedge number and of a cell's index: 6, 7, 8, 12 and 13. Internal: crates `checks`, `gauge`,
+// `values` and `problem` put them into document 01's order. A place is the caller's to say, a cell or an offset.
 //
 // Proved: what each test finds, read as the model's check by `checkOf`, equals the check that crate `model` defines; a list's test is a search
 // for the lowest place (refusals/proofs/Search).
 ghost use mathlib.Core.Path.{_≡_};
 ghost use Prim.Native.Nat.{_+_, _*_, _≤_};
 ghost use lib.Dec.{ltb, leb, eqb};
+ghost use lib.IntN.{natAbs};
 ghost use lib.ListN.{length, getD};
+ghost use Rattle.model.specs.Limits.{thicknessLimit, wedgeLimit};
 ghost use Rattle.model.specs.Refusals.{checkOf, failIf, failFirst};
+ghost use Rattle.model.specs.Checks.{outside};
+ghost use Rattle.model.specs.File.{wedgeCheck};
 use fault::Fault;
 use model::Head;
 use model::Refusal;
 use model::Tested;
+
+// The limits of model/specs/Limits.
+const THICKNESS_LIMIT: u32 = 128;
+
+const WEDGE_LIMIT: u64 = 1000000000;
 
 // Refusal 6, at the lowest cell's place: the places begin at `from`, `step` apart.
 pub fn weight_test(weights: &[u16], from: usize, step: usize) -> Tested
@@ -29,6 +38,46 @@ pub fn weight_test(weights: &[u16], from: usize, step: usize) -> Tested
         i += 1;
     }
     Tested::Fine
+}
+
+// Whether a thickness is not from 1 to 128.
+fn bad_thickness(thickness: u8) -> bool
+    ensures { λ r. ⌜ r ≡ outside thickness 1 thicknessLimit ⌝ }
+{
+    refusals::outside(thickness as u32, 1, THICKNESS_LIMIT)
+}
+
+// Refusal 7, at the lowest place: the thicknesses begin at offset `at`.
+pub fn thicknesses_test(thicknesses: &[u8], at: usize) -> Tested
+    requires { ⌜ at + length (now thicknesses) ≤ 1000000 ⌝ }
+    ensures { λ r. ⌜ checkOf r ≡ failFirst (λ j. outside (getD (now (thicknesses .entry)) j 0) 1 thicknessLimit) (length (now (thicknesses .entry))) 7 (λ j. at + j) ⌝ }
+{
+    let mut i = 0;
+    while i < thicknesses.len() {
+        if bad_thickness(thicknesses[i]) {
+            return Tested::Refused(Refusal {
+                fault: Fault::BadThickness,
+                place: at + i,
+            });
+        }
+        i += 1;
+    }
+    Tested::Fine
+}
+
+// Whether a wedge number is too far from 0, either way.
+fn far_wedge(wedge: i32) -> bool
+    ensures { λ r. ⌜ r ≡ ltb wedgeLimit (natAbs wedge) ⌝ }
+{
+    let wide = wedge as i64;
+    (WEDGE_LIMIT < cell::positive_part(wide)) | (WEDGE_LIMIT < cell::negative_part(wide))
+}
+
+// Refusal 8.
+pub fn wedge_test(wedge: i32, place: usize) -> Tested
+    ensures { λ r. ⌜ checkOf r ≡ wedgeCheck wedge place ⌝ }
+{
+    refusals::fail_if(far_wedge(wedge), Fault::BadWedge, place)
 }
 
 // Refusal 12, at the lowest cell.

@@ -55,7 +55,7 @@ pub fn thickness_values(file: &[u8], at: usize, t: usize) -> Tested
     ensures { λ r. ⌜ checkOf r ≡ thicknessesFrom (λ j. byteAt (now (file .entry)) (at + j)) t at ⌝ }
 {
     let end = at + t;
-    gauge::thicknesses_test(&file[at..end], at)
+    list_tests::thicknesses_test(&file[at..end], at)
 }
 
 // Refusal 8, of the number at `at`.
@@ -64,5 +64,5 @@ pub fn wedge_values(file: &[u8], at: usize) -> Tested
     ensures { λ r. ⌜ checkOf r ≡ wedgeCheck (signedOf (longAt (now (file .entry)) at)) at ⌝ }
 {
     let wedge = words::numbers::signed(words::numbers::long_at(file, at));
-    gauge::wedge_test(wedge, at)
+    list_tests::wedge_test(wedge, at)
 }

@@ -1,12 +1,12 @@
--- `gauge::thicknesses_test` meets its contract: a search (`Searched`) whose test is `bad_thickness` and whose places run from `at` on.
+-- `list_tests::thicknesses_test` meets its contract: a search (`Searched`) whose test is `bad_thickness` and whose places run from `at` on.
 use borrow.Author.Needs.{needs}
 use Prim.Native.Nat.{_+_, _-_}
 use lib.ListN.{length, getD}
 use Rattle.model.specs.Limits.{thicknessLimit}
 use Rattle.model.specs.Checks.{outside}
 use Rattle.refusals.proofs.Search.{Searched, search-begins, search-next, search-fails, search-passes}
-use Rattle.gauge.proofs.thicknesses_test.Statement.{statement}
-use Rattle.gauge.proofs.thicknesses_test.Tie as tie
+use Rattle.list_tests.proofs.thicknesses_test.Statement.{statement}
+use Rattle.list_tests.proofs.thicknesses_test.Tie as tie
 
 abbrev Inv-loop : tie.InvT-loop
 Inv-loop thicknesses at i₀ i = Searched (λ k. outside (getD thicknesses k 0) 1 thicknessLimit) (length thicknesses) i

@@ -1,4 +1,4 @@
--- `gauge::far_wedge` meets its contract: of the two parts of a wedge number one is 0, and the other is its distance from 0.
+-- `list_tests::far_wedge` meets its contract: of the two parts of a wedge number one is 0, and the other is its distance from 0.
 use mathlib.Core.Path.{_≡_, refl}
 use mathlib.Core.Bool.{_||_, or-false}
 use borrow.Author.Needs.{needs}
@@ -7,8 +7,8 @@ use lib.IntN.{ℤ, pos, negsuc, natAbs}
 use Rattle.model.specs.Limits.{wedgeLimit}
 use Rattle.model.specs.Integers.{positivePart, negativePart}
 use Rattle.stencil.proofs.Fits.{widens, widened}
-use Rattle.gauge.proofs.far_wedge.Statement.{statement}
-use Rattle.gauge.proofs.far_wedge.Tie as tie
+use Rattle.list_tests.proofs.far_wedge.Statement.{statement}
+use Rattle.list_tests.proofs.far_wedge.Tie as tie
 
 either-part : (z : ℤ) → (ltb wedgeLimit (positivePart z) || ltb wedgeLimit (negativePart z)) ≡ ltb wedgeLimit (natAbs z)
 either-part (pos n) = or-false (ltb wedgeLimit n)

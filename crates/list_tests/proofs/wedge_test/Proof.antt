@@ -1,8 +1,8 @@
--- `gauge::wedge_test` meets its contract: `far_wedge` makes the model's test, and the wedge number comes back from its bits unchanged.
+-- `list_tests::wedge_test` meets its contract: `far_wedge` makes the model's test, and the wedge number comes back from its bits unchanged.
 use mir.Facts.{toZ-ofZ}
 use borrow.Author.Needs.{needs}
-use Rattle.gauge.proofs.wedge_test.Statement.{statement}
-use Rattle.gauge.proofs.wedge_test.Tie as tie
+use Rattle.list_tests.proofs.wedge_test.Statement.{statement}
+use Rattle.list_tests.proofs.wedge_test.Tie as tie
 
 far-wedge-requires : tie.Need-far-wedge-requires
 far-wedge-requires c κs = search needs
