@@ -1,6 +1,6 @@
 // The tests of the calls that take coefficients, in document 01's order: refusals 4, 5, 10, 14, 6, 9, 11, 12 and 13. The tests themselves
-// are in crates `refusals`, `list_tests`, `limits` and `dominance`. Internal: other crates of Film call it before they do anything else, so that a
-// refused call changes nothing.
+// are in crates `refusals`, `list_tests`, `limits` and `dominance`. Internal: other crates of Film call it before they do anything else,
+// so that a refused call changes nothing.
 //
 // Proved: what each test finds, read as the model's check by `checkOf`, equals the check that crate `model` defines, for all values
 // that the types can hold: no public function asks anything of its caller. So the first test that fails wins, at its lowest place.
