@@ -3,23 +3,36 @@
  * A film has R rows and C columns of cells, N = R * C, and T = (R + 2) * (C + 2) thicknesses, the boundary ring included. Cells are
  * counted from 0, row by row; lines from 1 to R.
  *
+ * A film file is of one of two kinds. Both begin with fields 01 (shape), 02 (ceiling) and 03 (weights, 2 bytes a cell).
+ *
+ *    a gauged film         goes on with 04 (thicknesses, a byte each) and 05 (wedge, 4 bytes): 25 + 2 * N + T bytes, at most 3,229
+ *    a coefficient film    goes on with 06 (diagonals), 07 (right links), 08 (up links), 4 bytes a cell each, and 09 (sources, 8 bytes a
+ *                          cell): 27 + 22 * N bytes, at most 22,555
+ *
+ * A field is its tag, a byte; the length of its body, 2 bytes; and the body. Numbers are big-endian, wedge and sources two's complement.
+ * Each kind has a reader and a writer; film_convert makes a coefficient film's file of a gauged film; film_report takes either kind.
+ *
  * Every call returns 0 if it answered, and then writes what its comment says and leaves *place as it was. Otherwise it returns the number of
  * a refusal, 1 to 14, writes the refusal's place to *place, and changes nothing else: no result, no field, no slice.
  *
  *    1 truncated           a file's header or body runs past its end; place: the file's length
  *    2 unexpected          a tag is not the next one, or bytes follow the last field; place: its offset
  *    3 wrong length        a body's length is wrong for its tag; place: the field's offset
- *    4 bad shape           rows or columns are not 1 to 32; place: 3 or 4 for a film's own numbers, 0 for coefficients
- *    5 bad ceiling         the ceiling is not 1 to 16,777,216; place: 8 for a film's own numbers, 0 for coefficients
- *    6 zero weight         a weight is 0; place: its offset in the film file, the cell for coefficients
- *    7 bad thickness       a thickness is not 1 to 128; place: its offset in the film file
- *    8 bad wedge           the wedge is beyond 1,000,000,000 either way; place: its offset in the film file
+ *    4 bad shape           rows or columns are not 1 to 32; place: its offset, 3 or 4 (in steps and runs 0)
+ *    5 bad ceiling         the ceiling is not 1 to 16,777,216; place: its offset, 8 (in steps and runs 0)
+ *    6 zero weight         a weight is 0; place: its offset, 15 + 2 * cell (in steps and runs the cell)
+ *    7 bad thickness       a thickness is not 1 to 128; place: its offset
+ *    8 bad wedge           the wedge is beyond 1,000,000,000 either way; place: its offset
  *    9 not dominant        a weighted row sum is below 1; place: the cell
  *   10 wrong buffer        a slice has the wrong length; place: 0
  *   11 bad order           an ordering number is not 0, 1 or 2; place: 0
  *   12 start above ceiling a pressure of the field is above the ceiling; place: the cell
  *   13 out of grid         a line or cell is outside the grid; place: 0
  *   14 bad coefficient     a coefficient is outside its limits; place: the cell
+ *
+ * Offsets are those in the film file. Calls that take a film's numbers and no file name the offsets that these would have in one: film_write,
+ * film_form and film_convert in a gauged film's, film_write_coefficients in a coefficient film's. The steps and runs are the calls from
+ * film_relax to film_run.
  *
  * Where several would do, the call names the first that it tests for; each call lists its tests in their order.
  *
@@ -57,22 +70,22 @@ static_assert(sizeof(film_head) == 3 * sizeof(uint32_t), "film_head has the layo
 _Static_assert(sizeof(film_head) == 3 * sizeof(uint32_t), "film_head has the layout of an array");
 #endif
 
-/* Reads a film file. `weights` has 1,024 elements and `thicknesses` 1,156, whatever the film; those beyond the film's N and T keep their
- * contents. Writes the film's head and its wedge.
+/* Reads a gauged film's file. `weights` has 1,024 elements and `thicknesses` 1,156, whatever the film; those beyond the film's N and T keep
+ * their contents. Writes the film's head and its wedge.
  * Refusals: 10, then the fields in their order, each with 1 (header), 2, 3, 1 (body) and its values (4, 5, 6, 7, 8), then 2 for what follows,
- * then 9. */
+ * then 9. A coefficient film is refused with 2 at its tag 06. */
 uint32_t film_read(const uint8_t *file, size_t file_len,
                    uint16_t *weights, size_t weights_len, uint8_t *thicknesses, size_t thicknesses_len,
                    film_head *head, int32_t *wedge, size_t *place);
 
-/* Writes a film's file. `weights` has N elements, `thicknesses` T, and `out` exactly the file's length, 25 + 2 * N + T.
+/* Writes a gauged film's file. `weights` has N elements, `thicknesses` T, and `out` exactly the file's length, 25 + 2 * N + T.
  * Refusals: 4, 10, 5, 6, 7, 8, 9. */
 uint32_t film_write(const film_head *head,
                     const uint16_t *weights, size_t weights_len, const uint8_t *thicknesses, size_t thicknesses_len,
                     int32_t wedge, uint8_t *out, size_t out_len, size_t *place);
 
-/* Forms the coefficients of a film from its thicknesses and wedge. `weights`, `diagonals`, `rights`, `ups` and `sources` have N elements,
- * `thicknesses` has T. The link of two neighbours, or of a cell and its neighbour on the ring, is the cube of the sum of their two
+/* Forms the coefficients of a gauged film from its thicknesses and wedge. `weights`, `diagonals`, `rights`, `ups` and `sources` have N
+ * elements, `thicknesses` has T. The link of two neighbours, or of a cell and its neighbour on the ring, is the cube of the sum of their two
  * thicknesses; a diagonal is the sum of the cell's four links; a source is wedge * (thickness of the next column - thickness of the column
  * before) in the cell's row. Refusals: 4, 10, 5, 6, 7, 8, 9. */
 uint32_t film_form(const film_head *head,
@@ -82,7 +95,7 @@ uint32_t film_form(const film_head *head,
                    uint32_t *ups, size_t ups_len, int64_t *sources, size_t sources_len,
                    size_t *place);
 
-/* The calls below take a film as coefficients: `weights`, `diagonals`, `rights`, `ups`, `sources` and `field` have N elements, one a cell.
+/* A film as coefficients has a weight, a diagonal, two links and a source for each cell, formed or from a mesh of the caller's own.
  *
  *    diagonals  1 to 134,217,728
  *    rights     right links, to the cell in the next column, 0 to 16,777,216; 0 in the last column
@@ -95,6 +108,34 @@ uint32_t film_form(const film_head *head,
  * The slack of a cell in a field is diagonal * its pressure + source - the sum of link * neighbour's pressure over its neighbours inside the
  * grid. A field meets the film when no pressure is above the ceiling and no slack is negative. The weighted row sum of a cell, which has to
  * be at least 1 (refusal 9), is the slack with weights for pressures and source 0. */
+
+/* Reads a coefficient film's file. Each of the five buffers has 1,024 elements, whatever the film; those beyond the film's N keep their
+ * contents. Writes the film's head.
+ * Refusals: 10, then the fields in their order, each with 1 (header), 2, 3, 1 (body) and its values (4, 5, 6; none for 06 to 09), then 2 for
+ * what follows, then 14, then 9. A gauged film is refused with 2 at its tag 04. */
+uint32_t film_read_coefficients(const uint8_t *file, size_t file_len,
+                                uint16_t *weights, size_t weights_len, uint32_t *diagonals, size_t diagonals_len,
+                                uint32_t *rights, size_t rights_len, uint32_t *ups, size_t ups_len,
+                                int64_t *sources, size_t sources_len,
+                                film_head *head, size_t *place);
+
+/* Writes a coefficient film's file. The five slices have N elements, and `out` exactly the file's length, 27 + 22 * N.
+ * Refusals: 4, 10, 5, 6, 14, 9. */
+uint32_t film_write_coefficients(const film_head *head,
+                                 const uint16_t *weights, size_t weights_len, const uint32_t *diagonals, size_t diagonals_len,
+                                 const uint32_t *rights, size_t rights_len, const uint32_t *ups, size_t ups_len,
+                                 const int64_t *sources, size_t sources_len,
+                                 uint8_t *out, size_t out_len, size_t *place);
+
+/* Converts a gauged film: writes the file of the coefficient film of the same problem, whose coefficients are those that film_form forms.
+ * `weights` has N elements, `thicknesses` T, and `out` exactly the file's length, 27 + 22 * N.
+ * Refusals: 4, 10, 5, 6, 7, 8, 9, at the offsets of the gauged film's file. */
+uint32_t film_convert(const film_head *head,
+                      const uint16_t *weights, size_t weights_len, const uint8_t *thicknesses, size_t thicknesses_len,
+                      int32_t wedge, uint8_t *out, size_t out_len, size_t *place);
+
+/* The steps and runs below take a film as coefficients, of whichever kind its file was: `weights`, `diagonals`, `rights`, `ups`, `sources`
+ * and `field` have N elements. */
 
 /* Relaxes cell `at` of the field. Writes to result[0]: 0 if the cell is quiet, 1 if it was raised, 2 if it would pass the ceiling; and to
  * result[1] the pressure that it was raised to, else 0. The field changes in that cell alone, and only if it was raised.
@@ -152,7 +193,8 @@ uint32_t film_run(const film_head *head,
                   uint32_t result[4], size_t *cell, size_t *place);
 
 /* Writes the report of a film file at the start of `out` and its length to *length; `out` has at least 33,288 elements, and those beyond the
- * report keep their contents. A file that is refused has a report too, which says so. Refusal: 10. */
+ * report keep their contents. The file is read as film_read_coefficients does where the tag after field 03 is 06, else as film_read does. One
+ * that is refused has a report too, which says so. Refusal: 10. */
 uint32_t film_report(const uint8_t *file, size_t file_len, uint8_t *out, size_t out_len, size_t *length, size_t *place);
 
 #ifdef __cplusplus

@@ -13,9 +13,9 @@ pub struct Field {
 }
 
 impl Field {
-    /// The zero field of a film, where a search for its least field starts.
+    /// The zero field of a gauged film, where a search for its least field starts.
     pub fn zero(film: &Film) -> Field {
-        Field::from(vec![0; film.cells()])
+        film.as_coefficients().zero_field()
     }
 
     /// The pressures, by cell index.

@@ -1,58 +1,43 @@
-//! Films: a gauged pad with its coefficients.
+//! Gauged films: a pad by its thicknesses, with the coefficients that these form.
 
 use crate::answers::{Order, Outcome, Proposed, Relaxed};
-use crate::raw::{self, Formed, Gauge, Head, Problem, Ran};
+use crate::coefficients::{area, file_length, CoefficientFilm, Coefficients, MOST_CELLS};
+use crate::raw::{self, Formed, Gauge, Head};
 use crate::refusal::{tested, Refusal};
 use crate::Field;
 
-/// A film that was accepted: the numbers of its film file, and the coefficients that they form.
+/// A gauged film that was accepted: the numbers of its film file, and the coefficients that they
+/// form.
 ///
 /// Cells are counted by index from 0, by rows; lines, which are rows of the grid, from 1.
 #[derive(Clone, Debug, PartialEq, Eq)]
 pub struct Film {
-    head: Head,
-    weights: Vec<u16>,
     thicknesses: Vec<u8>,
     wedge: i32,
-    coefficients: Coefficients,
+    /// The same film by its coefficients, formed once, since every call on a field takes them.
+    formed: CoefficientFilm,
 }
 
-/// Formed once, since every call on a field takes them.
-#[derive(Clone, Debug, PartialEq, Eq)]
-struct Coefficients {
-    diagonals: Vec<u32>,
-    rights: Vec<u32>,
-    ups: Vec<u32>,
-    sources: Vec<i64>,
-}
-
-impl Coefficients {
-    fn form(gauge: Gauge) -> Result<Coefficients, Refusal> {
-        // The shape is not tested yet, but with any other number of weights the call is refused.
-        let cells = gauge.weights.len();
-        let mut coefficients = Coefficients {
-            diagonals: vec![0; cells],
-            rights: vec![0; cells],
-            ups: vec![0; cells],
-            sources: vec![0; cells],
-        };
-        let formed = Formed {
-            diagonals: &mut coefficients.diagonals,
-            rights: &mut coefficients.rights,
-            ups: &mut coefficients.ups,
-            sources: &mut coefficients.sources,
-        };
-        let mut place = 0;
-        tested(raw::form(gauge, formed, &mut place), place)?;
-        Ok(coefficients)
-    }
+/// The coefficients that a film's numbers form.
+fn form(gauge: Gauge) -> Result<Coefficients, Refusal> {
+    // The shape is not tested yet, but with any other number of weights the call is refused.
+    let mut coefficients = Coefficients::room(gauge.weights.len());
+    let formed = Formed {
+        diagonals: &mut coefficients.diagonals,
+        rights: &mut coefficients.rights,
+        ups: &mut coefficients.ups,
+        sources: &mut coefficients.sources,
+    };
+    let mut place = 0;
+    tested(raw::form(gauge, formed, &mut place), place)?;
+    Ok(coefficients)
 }
 
 /// Making films, and writing them.
 impl Film {
-    /// Reads a film file.
+    /// Reads a gauged film's file. One of a coefficient film is refused with 2 at its tag 06.
     pub fn read(file: &[u8]) -> Result<Film, Refusal> {
-        let (mut weights, mut thicknesses) = (vec![0; 1_024], vec![0; 1_156]);
+        let (mut weights, mut thicknesses) = (vec![0; MOST_CELLS], vec![0; 1_156]);
         let (mut head, mut wedge, mut place) = (Head::default(), 0, 0);
         let number = raw::read(
             file,
@@ -76,35 +61,50 @@ impl Film {
         thicknesses: Vec<u8>,
         wedge: i32,
     ) -> Result<Film, Refusal> {
-        let coefficients = Coefficients::form(Gauge {
+        let coefficients = form(Gauge {
             head: &head,
             weights: &weights,
             thicknesses: &thicknesses,
             wedge,
         })?;
         Ok(Film {
-            head,
-            weights,
             thicknesses,
             wedge,
-            coefficients,
+            formed: CoefficientFilm::accepted(head, weights, coefficients),
         })
     }
 
     /// The film file. Reading it gives the same film again, and a film that was read from a file
     /// writes that file's own bytes.
     pub fn write(&self) -> Result<Vec<u8>, Refusal> {
-        let gauge = Gauge {
-            head: &self.head,
-            weights: &self.weights,
+        // Five headers of 3 bytes, shape, ceiling and wedge, and the two bodies.
+        let mut file = vec![0; 25 + 2 * self.cells() + self.thicknesses.len()];
+        let mut place = 0;
+        tested(raw::write(self.gauge(), &mut file, &mut place), place)?;
+        Ok(file)
+    }
+
+    /// Converts the film: the file of the coefficient film of the same problem. Its runs and its
+    /// report are the same.
+    pub fn convert(&self) -> Result<Vec<u8>, Refusal> {
+        let mut file = vec![0; file_length(self.cells())];
+        let mut place = 0;
+        tested(raw::convert(self.gauge(), &mut file, &mut place), place)?;
+        Ok(file)
+    }
+
+    /// The same film by its coefficients: the one that `convert` writes.
+    pub fn as_coefficients(&self) -> &CoefficientFilm {
+        &self.formed
+    }
+
+    fn gauge(&self) -> Gauge<'_> {
+        Gauge {
+            head: self.formed.head(),
+            weights: self.formed.weights(),
             thicknesses: &self.thicknesses,
             wedge: self.wedge,
-        };
-        // Five headers of 3 bytes, shape, ceiling and wedge, and the two bodies.
-        let mut file = vec![0; 25 + 2 * self.weights.len() + self.thicknesses.len()];
-        let mut place = 0;
-        tested(raw::write(gauge, &mut file, &mut place), place)?;
-        Ok(file)
+        }
     }
 }
 
@@ -112,28 +112,28 @@ impl Film {
 impl Film {
     /// Rows of the grid, 1 to 32.
     pub fn rows(&self) -> u32 {
-        self.head.rows
+        self.formed.rows()
     }
 
     /// Columns of the grid, 1 to 32.
     pub fn columns(&self) -> u32 {
-        self.head.columns
+        self.formed.columns()
     }
 
     /// Cells of the grid.
     pub fn cells(&self) -> usize {
-        self.weights.len()
+        self.formed.cells()
     }
 
     /// The upper bound of every pressure, 1 to 16,777,216 steps.
     pub fn ceiling(&self) -> u32 {
-        self.head.ceiling
+        self.formed.ceiling()
     }
 
     /// A weight for each cell. With them for pressures, and no source, every slack is at least 1:
     /// so the film's matrix is Minkowski.
     pub fn weights(&self) -> &[u16] {
-        &self.weights
+        self.formed.weights()
     }
 
     /// Thicknesses of the grid and the ring around it, by rows.
@@ -148,26 +148,26 @@ impl Film {
 
     /// The sum of each cell's four links.
     pub fn diagonals(&self) -> &[u32] {
-        &self.coefficients.diagonals
+        self.formed.diagonals()
     }
 
     /// Each cell's link to the next column, 0 in the last.
     pub fn rights(&self) -> &[u32] {
-        &self.coefficients.rights
+        self.formed.rights()
     }
 
     /// Each cell's link to the next row, 0 in the last.
     pub fn ups(&self) -> &[u32] {
-        &self.coefficients.ups
+        self.formed.ups()
     }
 
     /// Each cell's source.
     pub fn sources(&self) -> &[i64] {
-        &self.coefficients.sources
+        self.formed.sources()
     }
 }
 
-/// The calls on a field.
+/// The calls on a field, which are those on the film's coefficients.
 impl Film {
     /// Runs relaxations from the field as it stands, at most `budget` of them. With proposals, each
     /// line is first proposed its estimate.
@@ -178,54 +178,23 @@ impl Film {
         order: Order,
         proposals: bool,
     ) -> Result<Outcome, Refusal> {
-        let mut ran = Ran::default();
-        let number = raw::run(
-            self.problem(),
-            field.pressures_mut(),
-            budget,
-            order.number(),
-            proposals,
-            &mut ran,
-        );
-        tested(number, ran.place)?;
-        Ok(Outcome::told(ran))
+        self.formed.run(field, budget, order, proposals)
     }
 
     /// Relaxes one cell: raises it to its required pressure, with the others fixed.
     pub fn relax(&self, field: &mut Field, cell: usize) -> Result<Relaxed, Refusal> {
-        let (mut result, mut place) = ([0; 2], 0);
-        let number = raw::relax(
-            self.problem(),
-            field.pressures_mut(),
-            cell,
-            &mut result,
-            &mut place,
-        );
-        tested(number, place)?;
-        Ok(Relaxed::told(result))
+        self.formed.relax(field, cell)
     }
 
     /// A cell's slack: diagonal × pressure − the sum of link × neighbour's pressure + source. A
     /// field is feasible when no slack is negative.
     pub fn slack(&self, field: &Field, cell: usize) -> Result<i64, Refusal> {
-        let (mut slack, mut place) = (0, 0);
-        let number = raw::slack(
-            self.problem(),
-            field.pressures(),
-            cell,
-            &mut slack,
-            &mut place,
-        );
-        tested(number, place)?;
-        Ok(slack)
+        self.formed.slack(field, cell)
     }
 
     /// The film's margin: an estimate keeps this many weights below the real solution of its line.
     pub fn margin(&self) -> Result<u32, Refusal> {
-        let (mut margin, mut place) = (0, 0);
-        let number = raw::margin(self.problem(), &mut margin, &mut place);
-        tested(number, place)?;
-        Ok(margin)
+        self.formed.margin()
     }
 
     /// Proposes pressures for a line, 1 to the number of rows: one for each column. Where the exact
@@ -236,47 +205,11 @@ impl Film {
         line: u32,
         proposal: &[u32],
     ) -> Result<Proposed, Refusal> {
-        let (mut result, mut place) = ([0; 2], 0);
-        let number = raw::propose(
-            self.problem(),
-            field.pressures_mut(),
-            line,
-            proposal,
-            &mut result,
-            &mut place,
-        );
-        tested(number, place)?;
-        Ok(Proposed::told(result))
+        self.formed.propose(field, line, proposal)
     }
 
     /// The program's own proposal for a line, worked in binary64 from the field as it stands.
     pub fn estimate(&self, field: &Field, line: u32) -> Result<Vec<u32>, Refusal> {
-        let mut proposal = vec![0; self.head.columns as usize];
-        let mut place = 0;
-        let number = raw::estimate(
-            self.problem(),
-            field.pressures(),
-            line,
-            &mut proposal,
-            &mut place,
-        );
-        tested(number, place)?;
-        Ok(proposal)
+        self.formed.estimate(field, line)
     }
-
-    fn problem(&self) -> Problem<'_> {
-        Problem {
-            head: &self.head,
-            weights: &self.weights,
-            diagonals: &self.coefficients.diagonals,
-            rights: &self.coefficients.rights,
-            ups: &self.coefficients.ups,
-            sources: &self.coefficients.sources,
-        }
-    }
-}
-
-/// The places of a grid whose sides were tested.
-fn area(rows: u32, columns: u32) -> usize {
-    rows as usize * columns as usize
 }

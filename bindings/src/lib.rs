@@ -1,4 +1,4 @@
-//! Least pressure fields of gauged oil films.
+//! Least pressure fields of oil films, gauged or given by coefficients.
 //!
 //! A bearing bench gauges the oil film under a pad on a grid of up to 32 × 32 cells. From these
 //! thicknesses the library forms the coefficients of Reynolds' difference equation with cavitation,
@@ -21,8 +21,14 @@
 //! assert_eq!(field.pressures(), [2, 4]);
 //! # Ok::<(), film::Refusal>(())
 //! ```
+//!
+//! Who has a mesh of their own, and no gauge grid, gives the coefficients: a [`CoefficientFilm`] has
+//! the same calls on a field. [`Film::convert`] writes a gauged film as one, and [`AnyFilm`] reads
+//! film files of either kind.
 
 mod answers;
+mod any;
+mod coefficients;
 mod field;
 mod gauged;
 pub mod raw;
@@ -30,6 +36,8 @@ mod refusal;
 mod report;
 
 pub use answers::{Counts, Order, Outcome, Proposed, Relaxed};
+pub use any::AnyFilm;
+pub use coefficients::{CoefficientFilm, Coefficients};
 pub use field::Field;
 pub use gauged::Film;
 pub use raw::Head;

@@ -24,7 +24,8 @@ pub struct Head {
     pub ceiling: u32,
 }
 
-/// A film as coefficients, one number of each slice a cell.
+/// A film as coefficients, one number of each slice a cell: the numbers of a coefficient film's
+/// file.
 #[derive(Clone, Copy)]
 pub struct Problem<'a> {
     pub head: &'a Head,
@@ -35,13 +36,22 @@ pub struct Problem<'a> {
     pub sources: &'a [i64],
 }
 
-/// A film as it was gauged: the numbers of a film file.
+/// A film as it was gauged: the numbers of a gauged film's file.
 #[derive(Clone, Copy)]
 pub struct Gauge<'a> {
     pub head: &'a Head,
     pub weights: &'a [u16],
     pub thicknesses: &'a [u8],
     pub wedge: i32,
+}
+
+/// Lent buffers that `read_coefficients` fills, 1,024 numbers each whatever the film.
+pub struct Coefficients<'a> {
+    pub weights: &'a mut [u16],
+    pub diagonals: &'a mut [u32],
+    pub rights: &'a mut [u32],
+    pub ups: &'a mut [u32],
+    pub sources: &'a mut [i64],
 }
 
 /// Lent slices that `form` fills.
@@ -62,7 +72,7 @@ pub struct Ran {
     pub place: usize,
 }
 
-/// Reads a film file into `weights`, 1,024 of them, and `thicknesses`, 1,156.
+/// Reads a gauged film's file into `weights`, 1,024 of them, and `thicknesses`, 1,156.
 #[inline]
 pub fn read(
     file: &[u8],
@@ -89,7 +99,7 @@ pub fn read(
     }
 }
 
-/// Writes a film file into `out`, which must have exactly its length.
+/// Writes a gauged film's file into `out`, which must have exactly its length.
 #[inline]
 pub fn write(gauge: Gauge, out: &mut [u8], place: &mut usize) -> u32 {
     // SAFETY: weights and thicknesses are read within their lengths; `out` is written within its
@@ -130,6 +140,82 @@ pub fn form(gauge: Gauge, formed: Formed, place: &mut usize) -> u32 {
             formed.ups.len(),
             formed.sources.as_mut_ptr(),
             formed.sources.len(),
+            place,
+        )
+    }
+}
+
+/// Reads a coefficient film's file into the five buffers.
+#[inline]
+pub fn read_coefficients(
+    file: &[u8],
+    buffers: Coefficients,
+    head: &mut Head,
+    place: &mut usize,
+) -> u32 {
+    // SAFETY: `file` is read within its length; the five buffers are written within theirs, and
+    // they, `head` and `place` are lent by `&mut`, so that none overlaps another.
+    unsafe {
+        film_read_coefficients(
+            file.as_ptr(),
+            file.len(),
+            buffers.weights.as_mut_ptr(),
+            buffers.weights.len(),
+            buffers.diagonals.as_mut_ptr(),
+            buffers.diagonals.len(),
+            buffers.rights.as_mut_ptr(),
+            buffers.rights.len(),
+            buffers.ups.as_mut_ptr(),
+            buffers.ups.len(),
+            buffers.sources.as_mut_ptr(),
+            buffers.sources.len(),
+            head,
+            place,
+        )
+    }
+}
+
+/// Writes a coefficient film's file into `out`, which must have exactly its length.
+#[inline]
+pub fn write_coefficients(problem: Problem, out: &mut [u8], place: &mut usize) -> u32 {
+    // SAFETY: the film's slices are read within their lengths; `out` is written within its own, and
+    // it and `place` are lent by `&mut`.
+    unsafe {
+        film_write_coefficients(
+            problem.head,
+            problem.weights.as_ptr(),
+            problem.weights.len(),
+            problem.diagonals.as_ptr(),
+            problem.diagonals.len(),
+            problem.rights.as_ptr(),
+            problem.rights.len(),
+            problem.ups.as_ptr(),
+            problem.ups.len(),
+            problem.sources.as_ptr(),
+            problem.sources.len(),
+            out.as_mut_ptr(),
+            out.len(),
+            place,
+        )
+    }
+}
+
+/// Converts a gauged film: writes the file of the coefficient film of the same problem into `out`,
+/// which must have exactly its length.
+#[inline]
+pub fn convert(gauge: Gauge, out: &mut [u8], place: &mut usize) -> u32 {
+    // SAFETY: weights and thicknesses are read within their lengths; `out` is written within its
+    // own, and it and `place` are lent by `&mut`.
+    unsafe {
+        film_convert(
+            gauge.head,
+            gauge.weights.as_ptr(),
+            gauge.weights.len(),
+            gauge.thicknesses.as_ptr(),
+            gauge.thicknesses.len(),
+            gauge.wedge,
+            out.as_mut_ptr(),
+            out.len(),
             place,
         )
     }
@@ -333,7 +419,7 @@ pub fn run(
     }
 }
 
-/// Writes the report of a file into `out`, of at least 33,288 bytes, and its length.
+/// Writes the report of a file of either kind into `out`, of at least 33,288 bytes, and its length.
 #[inline]
 pub fn report(file: &[u8], out: &mut [u8], length: &mut usize, place: &mut usize) -> u32 {
     // SAFETY: `file` is read within its length; `out` is written within its own, and it, `length`
@@ -391,6 +477,52 @@ extern "C" {
         ups_len: usize,
         sources: *mut i64,
         sources_len: usize,
+        place: *mut usize,
+    ) -> u32;
+
+    fn film_read_coefficients(
+        file: *const u8,
+        file_len: usize,
+        weights: *mut u16,
+        weights_len: usize,
+        diagonals: *mut u32,
+        diagonals_len: usize,
+        rights: *mut u32,
+        rights_len: usize,
+        ups: *mut u32,
+        ups_len: usize,
+        sources: *mut i64,
+        sources_len: usize,
+        head: *mut Head,
+        place: *mut usize,
+    ) -> u32;
+
+    fn film_write_coefficients(
+        head: *const Head,
+        weights: *const u16,
+        weights_len: usize,
+        diagonals: *const u32,
+        diagonals_len: usize,
+        rights: *const u32,
+        rights_len: usize,
+        ups: *const u32,
+        ups_len: usize,
+        sources: *const i64,
+        sources_len: usize,
+        out: *mut u8,
+        out_len: usize,
+        place: *mut usize,
+    ) -> u32;
+
+    fn film_convert(
+        head: *const Head,
+        weights: *const u16,
+        weights_len: usize,
+        thicknesses: *const u8,
+        thicknesses_len: usize,
+        wedge: i32,
+        out: *mut u8,
+        out_len: usize,
         place: *mut usize,
     ) -> u32;
 

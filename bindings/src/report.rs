@@ -6,8 +6,8 @@ use crate::refusal::{tested, Refusal};
 /// The length of the longest report, which the library wants room for.
 const LONGEST: usize = 33_288;
 
-/// The report of any file, as text: one run from the zero field, forward, without proposals, with a
-/// budget of 4,000,000 relaxations.
+/// The report of any file, of either kind of film, as text: one run from the zero field, forward,
+/// without proposals, with a budget of 4,000,000 relaxations.
 ///
 /// A file that is refused has a report too, the line `REFUSED` number place. So the call itself is
 /// never refused; the result is there because the library's call has one.

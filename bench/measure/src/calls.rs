@@ -25,16 +25,16 @@ pub fn run(
     order: u32,
     proposals: bool,
 ) -> Result<Ran, Refused> {
-    let lent = raw::Problem {
-        head: &head(problem.rows, problem.columns, problem.ceiling),
-        weights: &problem.weights,
-        diagonals: &problem.diagonals,
-        rights: &problem.rights,
-        ups: &problem.ups,
-        sources: &problem.sources,
-    };
+    let head = head(problem.rows, problem.columns, problem.ceiling);
     let mut told = raw::Ran::default();
-    let number = raw::run(lent, field, budget, order, proposals, &mut told);
+    let number = raw::run(
+        problem.lent(&head),
+        field,
+        budget,
+        order,
+        proposals,
+        &mut told,
+    );
     let [answer, visits, raises, proposed] = told.result;
     let ran = Ran {
         answer,
@@ -61,6 +61,24 @@ pub fn read(
         &mut place,
     );
     unless_refused(number, place, (head, wedge))
+}
+
+/// Head of a coefficient film's file; its other numbers go to the lent buffers.
+pub fn read_coefficients(file: &[u8], lent: raw::Coefficients) -> Result<Head, Refused> {
+    let (mut head, mut place) = (Head::default(), 0);
+    let number = raw::read_coefficients(file, lent, &mut head, &mut place);
+    unless_refused(number, place, head)
+}
+
+pub fn write_coefficients(lent: raw::Problem, out: &mut [u8]) -> Result<(), Refused> {
+    let mut place = 0;
+    let number = raw::write_coefficients(lent, out, &mut place);
+    unless_refused(number, place, ())
+}
+
+pub fn convert(gauge: Gauge, out: &mut [u8]) -> Result<(), Refused> {
+    let mut place = 0;
+    unless_refused(raw::convert(gauge, out, &mut place), place, ())
 }
 
 /// Lent slices for the coefficients of a film.

@@ -7,6 +7,7 @@ mod calls;
 mod clock;
 mod page;
 mod plain;
+mod plain_coefficients;
 mod plain_file;
 mod problem;
 mod real;

@@ -99,7 +99,7 @@ fn within_limits(system: System, cell: usize) -> bool {
 }
 
 /// Document 01: weighted row sum.
-fn dominance(system: System, cell: usize) -> i64 {
+pub fn dominance(system: System, cell: usize) -> i64 {
     let weight = |at: usize| i64::from(system.weights[at]);
     let (n, columns) = (system.weights.len(), system.columns);
     let mut sum = i64::from(system.diagonals[cell]) * weight(cell);

@@ -1,8 +1,9 @@
-//! Reading a film file, forming coefficients and printing the report, in plain Rust: what Film's
-//! calls do, with the same tests, as one would write it without proofs.
+//! Reading a gauged film's file, forming coefficients and printing the report, in plain Rust: what
+//! Film's calls do, with the same tests, as one would write it without proofs.
 
 use crate::calls::{head, Lent, Refused};
 use crate::plain::{self, End};
+use crate::plain_coefficients;
 use crate::problem::System;
 use film::Head;
 use film_oracle::film::Film;
@@ -17,6 +18,14 @@ pub struct Numbers<'a> {
     pub weights: &'a [u16],
     pub thicknesses: &'a [u8],
     pub wedge: i32,
+}
+
+/// The coefficients of a cell.
+pub struct Formed {
+    pub diagonal: u32,
+    pub right: u32,
+    pub up: u32,
+    pub source: i64,
 }
 
 impl<'a> Numbers<'a> {
@@ -46,6 +55,19 @@ impl<'a> Numbers<'a> {
             self.thickness(row + 1, column),
         ]
         .map(|there| (here + there).pow(3))
+    }
+
+    /// A cell's coefficients.
+    pub fn formed(&self, row: usize, column: usize) -> Formed {
+        let [before, after, below, above] = self.links(row, column);
+        let rise =
+            i64::from(self.thickness(row, column + 1)) - i64::from(self.thickness(row, column - 1));
+        Formed {
+            diagonal: before + after + below + above,
+            right: if column < self.columns { after } else { 0 },
+            up: if row < self.rows { above } else { 0 },
+            source: i64::from(self.wedge) * rise,
+        }
     }
 
     /// Weighted row sum.
@@ -89,18 +111,9 @@ pub fn read(
     if weights.len() != 1_024 || thicknesses.len() != 1_156 {
         return Err((10, 0));
     }
-    let shape = body(file, 0, 1, 2)?;
-    let (rows, columns) = (usize::from(shape[0]), usize::from(shape[1]));
-    test_shape(rows, columns)?;
-    let cells = rows * columns;
-    let ceiling = long(body(file, 5, 2, 4)?);
-    test((1..=16_777_216).contains(&ceiling), 5, 8)?;
     let mut found = [0; 1_024];
-    let pairs = body(file, 12, 3, 2 * cells)?.chunks_exact(2);
-    for (weight, pair) in found.iter_mut().zip(pairs) {
-        *weight = u16::from_be_bytes([pair[0], pair[1]]);
-    }
-    test_weights(&found[..cells])?;
+    let (rows, columns, ceiling) = opening(file, &mut found)?;
+    let cells = rows * columns;
     let ringed = (rows + 2) * (columns + 2);
     let gauged = body(file, 15 + 2 * cells, 4, ringed)?;
     test_thicknesses(gauged, cells)?;
@@ -122,8 +135,26 @@ pub fn read(
     Ok((head(rows, columns, ceiling), wedge))
 }
 
+/// Fields 01 to 03, with which both kinds of film begin: rows, columns and ceiling; the weights go
+/// to the table. A part of each reader, as if it were written there.
+#[inline(always)]
+pub fn opening(file: &[u8], weights: &mut [u16; 1_024]) -> Result<(usize, usize, u32), Refused> {
+    let shape = body(file, 0, 1, 2)?;
+    let (rows, columns) = (usize::from(shape[0]), usize::from(shape[1]));
+    test_shape(rows, columns)?;
+    let cells = rows * columns;
+    let ceiling = long(body(file, 5, 2, 4)?);
+    test_ceiling(ceiling)?;
+    let pairs = body(file, 12, 3, 2 * cells)?.chunks_exact(2);
+    for (weight, pair) in weights.iter_mut().zip(pairs) {
+        *weight = u16::from_be_bytes([pair[0], pair[1]]);
+    }
+    test_weights(&weights[..cells])?;
+    Ok((rows, columns, ceiling))
+}
+
 /// One field: header, tag, length, presence of the body.
-fn body(file: &[u8], at: usize, tag: u8, length: usize) -> Result<&[u8], Refused> {
+pub fn body(file: &[u8], at: usize, tag: u8, length: usize) -> Result<&[u8], Refused> {
     test(file.len() >= at + 3, 1, file.len())?;
     test(file[at] == tag, 2, at)?;
     let told = u16::from_be_bytes([file[at + 1], file[at + 2]]);
@@ -136,7 +167,7 @@ fn long(body: &[u8]) -> u32 {
     u32::from_be_bytes([body[0], body[1], body[2], body[3]])
 }
 
-fn test(passed: bool, number: u32, place: usize) -> Result<(), Refused> {
+pub fn test(passed: bool, number: u32, place: usize) -> Result<(), Refused> {
     if passed {
         Ok(())
     } else {
@@ -144,12 +175,16 @@ fn test(passed: bool, number: u32, place: usize) -> Result<(), Refused> {
     }
 }
 
-fn test_shape(rows: usize, columns: usize) -> Result<(), Refused> {
+pub fn test_shape(rows: usize, columns: usize) -> Result<(), Refused> {
     test((1..=32).contains(&rows), 4, 3)?;
     test((1..=32).contains(&columns), 4, 4)
 }
 
-fn test_weights(weights: &[u16]) -> Result<(), Refused> {
+pub fn test_ceiling(ceiling: u32) -> Result<(), Refused> {
+    test((1..=16_777_216).contains(&ceiling), 5, 8)
+}
+
+pub fn test_weights(weights: &[u16]) -> Result<(), Refused> {
     match weights.iter().position(|&weight| weight == 0) {
         Some(cell) => Err((6, 15 + 2 * cell)),
         None => Ok(()),
@@ -172,47 +207,51 @@ fn test_wedge(wedge: i32, cells: usize, ringed: usize) -> Result<(), Refused> {
 #[inline(never)]
 pub fn form(film: Numbers, lent: &mut Lent) -> Result<(), Refused> {
     test_shape(film.rows, film.columns)?;
-    let cells = film.rows * film.columns;
-    let ringed = (film.rows + 2) * (film.columns + 2);
     let lengths = [
-        film.weights.len(),
         lent.diagonals.len(),
         lent.rights.len(),
         lent.ups.len(),
         lent.sources.len(),
     ];
-    test(
-        lengths == [cells; 5] && film.thicknesses.len() == ringed,
-        10,
-        0,
-    )?;
-    test((1..=16_777_216).contains(&film.ceiling), 5, 8)?;
+    test(lengths == [film.rows * film.columns; 4], 10, 0)?;
+    test_numbers(film)?;
+    fill(film, lent);
+    Ok(())
+}
+
+/// The tests of a film's numbers behind that of its shape.
+#[inline(always)]
+pub fn test_numbers(film: Numbers) -> Result<(), Refused> {
+    let cells = film.rows * film.columns;
+    let ringed = (film.rows + 2) * (film.columns + 2);
+    let fits = film.weights.len() == cells && film.thicknesses.len() == ringed;
+    test(fits, 10, 0)?;
+    test_ceiling(film.ceiling)?;
     test_weights(film.weights)?;
     test_thicknesses(film.thicknesses, cells)?;
     test_wedge(film.wedge, cells, ringed)?;
-    film.not_dominant()?;
-    fill(film, lent);
-    Ok(())
+    film.not_dominant()
 }
 
 fn fill(film: Numbers, lent: &mut Lent) {
     for row in 1..=film.rows {
         for column in 1..=film.columns {
             let cell = (row - 1) * film.columns + column - 1;
-            let [before, after, below, above] = film.links(row, column);
-            lent.diagonals[cell] = before + after + below + above;
-            lent.rights[cell] = if column < film.columns { after } else { 0 };
-            lent.ups[cell] = if row < film.rows { above } else { 0 };
-            let rise = i64::from(film.thickness(row, column + 1))
-                - i64::from(film.thickness(row, column - 1));
-            lent.sources[cell] = i64::from(film.wedge) * rise;
+            let formed = film.formed(row, column);
+            lent.diagonals[cell] = formed.diagonal;
+            lent.rights[cell] = formed.right;
+            lent.ups[cell] = formed.up;
+            lent.sources[cell] = formed.source;
         }
     }
 }
 
-/// The report of an accepted film's file, after those tests that reading makes.
+/// The report of an accepted film's file of either kind, after those tests that reading makes.
 #[inline(never)]
 pub fn report(file: &[u8], text: &mut String) -> Result<(), Refused> {
+    if plain_coefficients::has_coefficients(file) {
+        return plain_coefficients::report(file, text);
+    }
     let (mut weights, mut thicknesses) = ([0; 1_024], [0; 1_156]);
     let (head, wedge) = read(file, &mut weights, &mut thicknesses)?;
     let (rows, columns, ceiling) = (head.rows as usize, head.columns as usize, head.ceiling);
@@ -237,11 +276,17 @@ pub fn report(file: &[u8], text: &mut String) -> Result<(), Refused> {
         ups: &lent.ups,
         sources: &lent.sources,
     };
+    report_run(system, text);
+    Ok(())
+}
+
+/// The reported run of an accepted film, and its text.
+pub fn report_run(system: System, text: &mut String) {
+    let cells = system.weights.len();
     let mut field = vec![0; cells];
     let ran = plain::run(system, &plain::forward(cells), &mut field, 4_000_000);
     text.clear();
     print(system, &field, ran, text).expect("text grows");
-    Ok(())
 }
 
 fn print(system: System, field: &[u32], ran: plain::Ran, text: &mut String) -> fmt::Result {

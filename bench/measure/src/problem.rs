@@ -1,6 +1,7 @@
 //! The problems that are measured, as the numeric calls take them.
 
 use crate::real::Real;
+use film::{raw, Head};
 use film_oracle::coefficients::{form, Coefficients};
 use film_oracle::film::Film;
 use film_oracle::run::{run, Answer, Ordering, Outcome};
@@ -74,6 +75,18 @@ impl Problem {
             rows: self.rows,
             columns: self.columns,
             ceiling: self.ceiling,
+            weights: &self.weights,
+            diagonals: &self.diagonals,
+            rights: &self.rights,
+            ups: &self.ups,
+            sources: &self.sources,
+        }
+    }
+
+    /// The same as the library's calls take it.
+    pub fn lent<'a>(&'a self, head: &'a Head) -> raw::Problem<'a> {
+        raw::Problem {
+            head,
             weights: &self.weights,
             diagonals: &self.diagonals,
             rights: &self.rights,

@@ -15,13 +15,15 @@ use Rattle.model.specs.FileCalls.{LoadAnswer, film, loadAnswer, loadCheck, Load
 use Rattle.model.specs.Proposal.{ProposalAnswer, propose, lineStart, rowCheck, proposeCall}
 use Rattle.model.specs.Run.{RunAnswer, run, runCheck, runCall}
 use Rattle.model.specs.Demand.{ran, proposed, Kept, Claimed}
-use Rattle.model.specs.Session.{Session}
-use Rattle.model.proofs.Numbered.{run-numbered, row-numbered, load-numbered}
+use Rattle.model.specs.CoefficientFile.{filmIn}
+use Rattle.model.specs.CoefficientCalls.{filmHead, coefficientLoadCheck, LoadsCoefficients}
+use Rattle.model.specs.Session.{Session, gauged, coefficients}
+use Rattle.model.proofs.Numbered.{run-numbered, row-numbered, load-numbered, coefficient-load-numbered}
 use Rattle.model.proofs.Session.{demand-3-calls}
 use Rattle.told.specs.Refused.{numberIn}
 use Rattle.tell.specs.Numbers.{runNumbers, RunTold, proposeNumbers, ProposeTold}
-use Rattle.tell_files.specs.Files.{LoadTold}
-use Rattle.archive.specs.Lent.{lentHead, lentFilm, Leaves, readAnswer, ReadTold, FormTold}
+use Rattle.tell_files.specs.Files.{LoadTold, HeadTold}
+use Rattle.archive.specs.Lent.{lentHead, lentFilm, Leaves, readAnswer, ReadTold, lentCoefficients, coefficientsAnswer, CoefficientsTold, FormTold}
 
 -- a refusal's number is not 0, so that 0 is returned just where a call answered
 answered-0 : {A : Type 0} (tests : Check) (a : A) → Numbered tests → 0 ≡ numberIn (refusalIn (answerBy tests a)) → answerBy tests a ≡ answered a
@@ -79,7 +81,7 @@ module _ {bytes weights thicknesses head weights′ thicknesses′ head′ : Lis
       (F : FormTold (used (lentHead head′) wedge′ weights′ thicknesses′) diagonals rights ups sources at number diagonals′ rights′ ups′ sources′ at′) where
     pub session-told : Session bytes (lentFilm head′ weights′ diagonals′ rights′ ups′ sources′)
     session-told =
-        record {
+        gauged (record {
           head = lentHead head′;
           wedge = wedge′;
           weights = weights;
@@ -102,8 +104,45 @@ module _ {bytes weights thicknesses head weights′ thicknesses′ head′ : Lis
           sources′ = sources′;
           forms = F .forms;
           lent = refl;
-        }
+        })
 
     -- so demand 3 holds of every list of them
     pub demand-3-c : Bytes bytes → Claimed (lentFilm head′ weights′ diagonals′ rights′ ups′ sources′)
     demand-3-c B = demand-3-calls bytes B session-told
+
+-- ---- a coefficient film's file for which `film_read_coefficients` returned 0
+
+module _ {bytes weights diagonals rights ups head weights′ diagonals′ rights′ ups′ head′ : List ℕ} {sources sources′ : List ℤ} {place place′ : ℕ}
+    (R : CoefficientsTold bytes weights diagonals rights ups sources head place 0 weights′ diagonals′ rights′ ups′ sources′ head′ place′) where
+  coefficients-answered : coefficientsAnswer bytes weights diagonals rights ups sources ≡ answered (filmHead (filmIn bytes))
+  coefficients-answered =
+      answered-0 (coefficientLoadCheck bytes weights diagonals rights ups sources) (filmHead (filmIn bytes))
+      (coefficient-load-numbered bytes weights diagonals rights ups sources)
+      (R .told .told .number-is)
+
+  -- what it answered is what it wrote into head
+  coefficients-head : HeadTold (answered (filmHead (filmIn bytes))) head place 0 head′ place′ → answered (filmHead (filmIn bytes)) ≡ answered (lentHead head′)
+  coefficients-head T = sym (λ k. answered (lentHead (T .head-is k)))
+
+  pub coefficients-session : Session bytes (lentCoefficients head′ weights′ diagonals′ rights′ ups′ sources′)
+  coefficients-session =
+      let e = coefficients-answered ∙ coefficients-head (subst (λ a. HeadTold a head place 0 head′ place′) coefficients-answered (R .told)) in
+      coefficients (record {
+        head = lentHead head′;
+        weights = weights;
+        diagonals = diagonals;
+        rights = rights;
+        ups = ups;
+        sources = sources;
+        weights′ = weights′;
+        diagonals′ = diagonals′;
+        rights′ = rights′;
+        ups′ = ups′;
+        sources′ = sources′;
+        loads = subst (λ a. LoadsCoefficients bytes weights diagonals rights ups sources a weights′ diagonals′ rights′ ups′ sources′) e (R .loads);
+        lent = refl;
+      })
+
+  -- so demand 3 holds of every list of runs and proposals on it
+  pub demand-3-c-coefficients : Bytes bytes → Claimed (lentCoefficients head′ weights′ diagonals′ rights′ ups′ sources′)
+  demand-3-c-coefficients B = demand-3-calls bytes B coefficients-session

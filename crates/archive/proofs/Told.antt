@@ -6,11 +6,12 @@ use lib.IntN.{ℤ}
 use Rattle.model.specs.Gauge.{Gauge}
 use Rattle.model.specs.Result.{Answer, refusalIn, Result, Gives}
 use Rattle.model.specs.FileCalls.{gaugeOf, saveCall, LoadAnswer, Loads, Forms}
+use Rattle.model.specs.CoefficientCalls.{LoadsCoefficients, convertCall}
 use Rattle.model.specs.declared.Head.{Head}
 use Rattle.told.specs.Refused.{Told}
 use Rattle.tell.specs.Numbers.{SlackTold, MarginTold}
-use Rattle.tell_files.specs.Files.{LoadTold}
-use Rattle.archive.specs.Lent.{Leaves, ReadTold, FormTold}
+use Rattle.tell_files.specs.Files.{LoadTold, HeadTold}
+use Rattle.archive.specs.Lent.{Leaves, ReadTold, CoefficientsTold, FormTold}
 
 pub slack-told : {a b : Answer ℤ} {z z′ : ℤ} {p n p′ : ℕ} → a ≡ b → SlackTold a z p n z′ p′ → SlackTold b z p n z′ p′
 slack-told {z = z} {z′ = z′} {p = p} {n = n} {p′ = p′} e told = subst (λ (x : Answer ℤ). SlackTold x z p n z′ p′) e told
@@ -50,3 +51,24 @@ form-told {p = p} {n = n} {p′ = p′} forms told =
         sources-are = forms .sources-are;
       };
     }
+
+pub coefficients-told :
+    {bytes w d r u w′ d′ r′ u′ h h′ : List ℕ} {s s′ : List ℤ} {a : Answer Head} {p n p′ : ℕ} →
+    LoadsCoefficients bytes w d r u s a w′ d′ r′ u′ s′ → HeadTold a h p n h′ p′ → CoefficientsTold bytes w d r u s h p n w′ d′ r′ u′ s′ h′ p′
+coefficients-told {h = h} {h′ = h′} {p = p} {n = n} {p′ = p′} loads told =
+    record {
+      told = subst (λ (x : Answer Head). HeadTold x h p n h′ p′) (loads .answer-is) told;
+      loads = record {
+        answer-is = refl;
+        weights-are = loads .weights-are;
+        diagonals-are = loads .diagonals-are;
+        rights-are = loads .rights-are;
+        ups-are = loads .ups-are;
+        sources-are = loads .sources-are;
+      };
+    }
+
+pub convert-by-wedge :
+    (h : Head) (weights thicknesses out : List ℕ) {w wedge : ℤ} {a : Answer (Unit {0})} {exit : List ℕ} → w ≡ wedge
+    → Gives (convertCall (gaugeOf h weights thicknesses w) out) a exit → Gives (convertCall (gaugeOf h weights thicknesses wedge) out) a exit
+convert-by-wedge h weights thicknesses out {a = a} {exit = exit} e gave = subst (λ (z : ℤ). Gives (convertCall (gaugeOf h weights thicknesses z) out) a exit) e gave

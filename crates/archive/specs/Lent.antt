@@ -9,9 +9,11 @@ use Rattle.model.specs.Film.{Film, filmOf}
 use Rattle.model.specs.Result.{Answer, answerBy, refusalIn, Result}
 use Rattle.model.specs.File.{gaugeIn}
 use Rattle.model.specs.FileCalls.{LoadAnswer, Forms, Loads, formCheck, loadAnswer, loadCheck}
+use Rattle.model.specs.CoefficientFile.{filmIn}
+use Rattle.model.specs.CoefficientCalls.{filmHead, coefficientLoadCheck, LoadsCoefficients, usedFilm}
 use Rattle.model.specs.declared.Head.{Head}
 use Rattle.told.specs.Refused.{Told}
-use Rattle.tell_files.specs.Files.{LoadTold}
+use Rattle.tell_files.specs.Files.{LoadTold, HeadTold}
 
 -- a head as it is lent: rows, columns, ceiling
 abbrev pub lentHead : List ℕ → Head
@@ -35,6 +37,20 @@ pub record ReadTold (bytes weights thicknesses head : List ℕ) (wedge : ℤ) (p
     : Type 0 where
   pub told : LoadTold (readAnswer bytes weights thicknesses) head wedge place number head′ wedge′ place′
   pub loads : Loads bytes weights thicknesses (readAnswer bytes weights thicknesses) weights′ thicknesses′
+
+-- the film that runs and proposals are lent of a coefficient film that was read: the numbers at the starts of the reader's buffers
+abbrev pub lentCoefficients : List ℕ → List ℕ → List ℕ → List ℕ → List ℕ → List ℤ → Film
+lentCoefficients head = usedFilm (lentHead head)
+
+-- what `LoadsCoefficients` says that its reader answers
+abbrev pub coefficientsAnswer : List ℕ → List ℕ → List ℕ → List ℕ → List ℕ → List ℤ → Answer Head
+coefficientsAnswer bytes weights diagonals rights ups sources =
+    answerBy (coefficientLoadCheck bytes weights diagonals rights ups sources) (filmHead (filmIn bytes))
+
+pub record CoefficientsTold (bytes weights diagonals rights ups : List ℕ) (sources : List ℤ) (head : List ℕ) (place number : ℕ) (weights′ diagonals′ rights′ ups′ : List ℕ) (sources′ : List ℤ) (head′ : List ℕ) (place′ : ℕ)
+    : Type 0 where
+  pub told : HeadTold (coefficientsAnswer bytes weights diagonals rights ups sources) head place number head′ place′
+  pub loads : LoadsCoefficients bytes weights diagonals rights ups sources (coefficientsAnswer bytes weights diagonals rights ups sources) weights′ diagonals′ rights′ ups′ sources′
 
 -- what `Forms` says that the forming call answers
 abbrev pub formAnswer : Gauge → List ℕ → List ℕ → List ℕ → List ℤ → Answer (Unit {0})

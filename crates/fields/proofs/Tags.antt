@@ -1,16 +1,17 @@
 -- What a tag says of its field, and what follows from the tag that stands in a file.
-use mathlib.Core.Path.{_≡_, refl, sym, ap, _∙_}
+use mathlib.Core.Path.{_≡_, refl, sym, ap, subst, _∙_}
 use mathlib.Core.Bool.{Bool, true, false, cond, not}
 use mathlib.Core.List.{List}
-use Prim.Native.Nat.{ℕ, _+_, _≤_}
+use Prim.Native.Nat.{ℕ, zero, suc, _+_, _-_, _*_, _≤_, _<_}
 use native.Mathlib.Omega.{arith}
-use borrow.Author.Tests.{eqb-true, not-false}
+use borrow.Author.Tests.{eqb-true, ne-eqb, not-false}
 use lib.Dec.{ltb, eqb}
 use lib.ListN.{length}
 use Rattle.model.specs.Refusals.{Check, pass, checkOf, _orElse_, failIf}
 use Rattle.model.specs.Bytes.{byteAt, wordAt}
 use Rattle.model.specs.Fields.{Field, body, behind, fieldAt}
 use Rattle.model.specs.File.{shapeField, ceilingField, weightsField, thicknessesField, wedgeField}
+use Rattle.model.specs.CoefficientFile.{diagonalsField, rightsField, upsField, sourcesField}
 use Rattle.model.specs.declared.Refusal.{Refusal}
 use Rattle.model.specs.declared.Tested.{Tested}
 use Rattle.model.specs.declared.Tested.the-variants.{Fine, Refused}
@@ -18,17 +19,19 @@ use Rattle.model.proofs.Checks.{orElse-parts, failIf-pass}
 use Rattle.model.proofs.Fields.{header}
 use Rattle.refusals.proofs.Chain.{orElse-given, goes-on, refuses}
 use Rattle.fields.specs.declared.Walked.{Walked}
-use Rattle.fields.specs.Tags.{fieldFor, Tries}
+use Rattle.fields.specs.Tags.{plainField, unknown, fieldFor, Tries}
 
 either-low : (b : Bool) (x y : Field) {k : ℕ} → x .size ≤ k → y .size ≤ k → cond b x y .size ≤ k
 either-low true x y h l = h
 either-low false x y h l = l
 
-pub size-low : (tag n t : ℕ) → n ≤ 65025 → t ≤ 66049 → fieldFor tag n t .size ≤ 130050
+pub size-low : (tag n t : ℕ) → n ≤ 65025 → t ≤ 66049 → fieldFor tag n t .size ≤ 520200
 size-low tag n t h l =
     either-low (eqb tag 1) shapeField _ (omega arith) (either-low (eqb tag 2) ceilingField _ (omega arith)
     (either-low (eqb tag 3) (weightsField n) _ (omega arith) (either-low (eqb tag 4) (thicknessesField t) _ (omega arith)
-    (either-low (eqb tag 5) wedgeField _ (omega arith) (omega arith)))))
+    (either-low (eqb tag 5) wedgeField _ (omega arith) (either-low (eqb tag 6) (diagonalsField n) _ (omega arith)
+    (either-low (eqb tag 7) (rightsField n) _ (omega arith) (either-low (eqb tag 8) (upsField n) _ (omega arith)
+    (either-low (eqb tag 9) (sourcesField n) _ (omega arith) (omega arith)))))))))
 
 -- A field from the test h of its header: where that passes, the values are tested and the next field stands behind this one; where it
 -- refuses, nothing else counts.
@@ -38,6 +41,37 @@ module _ (f : Field) {l : List ℕ} {at tag : ℕ} {h : Tested} (found : checkOf
 
   pub field-refused : {r : Refusal} {next : ℕ} → h ≡ Refused r → Tries f tag l at (record { tested = Refused r; next = next })
   field-refused e = record { finds = refuses found _ e; goes-on = λ p. cc }
+
+-- The test of a field depends on its length and on the test of its values alone. So that of a plain field is that of every field with its
+-- length whose values are not tested: those of tags 6, 7 and 8, and what stands for any tag above 9.
+module _ (n t : ℕ) {l : List ℕ} {at tag : ℕ} {w : Walked} where
+  long-tried : (j : ℕ) → j < 3 → Tries (plainField (4 * n)) tag l at w → Tries (fieldFor (6 + j) n t) tag l at w
+  long-tried zero h T = record { finds = T .finds; goes-on = T .goes-on }
+  long-tried (suc zero) h T = record { finds = T .finds; goes-on = T .goes-on }
+  long-tried (suc (suc zero)) h T = record { finds = T .finds; goes-on = T .goes-on }
+  long-tried (suc (suc (suc j))) h T = absurd (omega arith)
+
+  pub longs-tried : (k : ℕ) → 6 ≤ k → k < 9 → Tries (plainField (4 * n)) tag l at w → Tries (fieldFor k n t) tag l at w
+  longs-tried k h b T =
+      let same : 6 + (k - 6) ≡ k = omega arith in
+      subst (λ (m : ℕ). Tries (fieldFor m n t) tag l at w) same (long-tried (k - 6) (omega arith) T)
+
+  pub unknown-tried : (k : ℕ) → 9 < k → Tries unknown tag l at w → Tries (fieldFor k n t) tag l at w
+  unknown-tried k h T =
+      rw (
+        other 1 (omega arith),
+        other 2 (omega arith),
+        other 3 (omega arith),
+        other 4 (omega arith),
+        other 5 (omega arith),
+        other 6 (omega arith),
+        other 7 (omega arith),
+        other 8 (omega arith),
+        other 9 (omega arith),
+      ) T
+    where
+      other : (j : ℕ) → j ≤ 9 → eqb k j ≡ false
+      other j b = ne-eqb k j (λ e. omega (arith, e))
 
 -- What is tested may be the field of the byte that stands there: where that is not the tag that should, it is refused before its length or
 -- its values count.

@@ -1,13 +1,13 @@
-// One field of a film file, as the reader tests it: header, tag, length, presence of the body, values. The tag byte that stands in the
-// file is matched once, and chooses the one permitted length of the body, the test of its values and where the next field stands.
-// Internal: the walk along a file calls it.
+// One field of a film file, of either kind, as the reader tests it: header, tag, length, presence of the body, values. The tag byte that
+// stands in the file is matched once, and chooses the one permitted length of the body, the test of its values and where the next field
+// stands. Internal: the walk along a file calls it.
 //
 // Proved: what a field's test finds is what crate `model` says of the field with that tag, and where it passes the next field stands
 // behind this one (`Tries`), at every offset of every file. Values are tested once the whole body is there (crate `values`); so no file that
 // is cut short needs a case of its own.
 ghost use Prim.Native.Nat.{_≤_};
 ghost use Rattle.model.specs.File.{shapeField, ceilingField, weightsField, thicknessesField, wedgeField};
-ghost use Rattle.fields.specs.Tags.{unknown, fieldFor, Tries, Room};
+ghost use Rattle.fields.specs.Tags.{plainField, fieldFor, Tries, Room};
 use model::Tested;
 
 // What the test of a field has found, and the offset behind the field.
@@ -25,7 +25,7 @@ const WEDGE_LENGTH: usize = 4;
 
 // Field 01 at `at`, where that tag should stand: header and, where that passes, values.
 fn shape_field(file: &[u8], at: usize, tag: u8) -> Walked
-    requires { ⌜ at ≤ 800000 ⌝ }
+    requires { ⌜ at ≤ 5000000 ⌝ }
     ensures { λ w. ⌜ Tries shapeField tag (now (file .entry)) at w ⌝ }
 {
     match headers::header_test(file, at, tag, SHAPE_LENGTH) {
@@ -42,7 +42,7 @@ fn shape_field(file: &[u8], at: usize, tag: u8) -> Walked
 
 // Field 02.
 fn ceiling_field(file: &[u8], at: usize, tag: u8) -> Walked
-    requires { ⌜ at ≤ 800000 ⌝ }
+    requires { ⌜ at ≤ 5000000 ⌝ }
     ensures { λ w. ⌜ Tries ceilingField tag (now (file .entry)) at w ⌝ }
 {
     match headers::header_test(file, at, tag, CEILING_LENGTH) {
@@ -59,7 +59,7 @@ fn ceiling_field(file: &[u8], at: usize, tag: u8) -> Walked
 
 // Field 03, of n weights.
 fn weights_field(file: &[u8], at: usize, tag: u8, n: usize) -> Walked
-    requires { ⌜ (at ≤ 800000) × (n ≤ 65025) ⌝ }
+    requires { ⌜ (at ≤ 5000000) × (n ≤ 65025) ⌝ }
     ensures { λ w. ⌜ Tries (weightsField n) tag (now (file .entry)) at w ⌝ }
 {
     match headers::header_test(file, at, tag, 2 * n) {
@@ -76,7 +76,7 @@ fn weights_field(file: &[u8], at: usize, tag: u8, n: usize) -> Walked
 
 // Field 04, of t thicknesses.
 fn thicknesses_field(file: &[u8], at: usize, tag: u8, t: usize) -> Walked
-    requires { ⌜ (at ≤ 800000) × (t ≤ 66049) ⌝ }
+    requires { ⌜ (at ≤ 5000000) × (t ≤ 66049) ⌝ }
     ensures { λ w. ⌜ Tries (thicknessesField t) tag (now (file .entry)) at w ⌝ }
 {
     match headers::header_test(file, at, tag, t) {
@@ -93,7 +93,7 @@ fn thicknesses_field(file: &[u8], at: usize, tag: u8, t: usize) -> Walked
 
 // Field 05.
 fn wedge_field(file: &[u8], at: usize, tag: u8) -> Walked
-    requires { ⌜ at ≤ 800000 ⌝ }
+    requires { ⌜ at ≤ 5000000 ⌝ }
     ensures { λ w. ⌜ Tries wedgeField tag (now (file .entry)) at w ⌝ }
 {
     match headers::header_test(file, at, tag, WEDGE_LENGTH) {
@@ -108,14 +108,15 @@ fn wedge_field(file: &[u8], at: usize, tag: u8) -> Walked
     }
 }
 
-// A byte that no field has as its tag: no length is permitted but none.
-fn no_field(file: &[u8], at: usize, tag: u8) -> Walked
-    requires { ⌜ at ≤ 800000 ⌝ }
-    ensures { λ w. ⌜ Tries unknown tag (now (file .entry)) at w ⌝ }
+// A field of so many bytes whose values are not tested where they stand: fields 06 to 09, since coefficients are tested once all of them
+// are there. A byte that no field has as its tag is tested as one of 0 bytes.
+fn plain_field(file: &[u8], at: usize, tag: u8, size: usize) -> Walked
+    requires { ⌜ (at ≤ 5000000) × (size ≤ 1000000) ⌝ }
+    ensures { λ w. ⌜ Tries (plainField size) tag (now (file .entry)) at w ⌝ }
 {
     Walked {
-        tested: headers::header_test(file, at, tag, 0),
-        next: at + 3,
+        tested: headers::header_test(file, at, tag, size),
+        next: at + 3 + size,
     }
 }
 
@@ -130,6 +131,8 @@ pub fn field_test(file: &[u8], at: usize, tag: u8, n: usize, t: usize) -> Walked
         3 => weights_field(file, at, tag, n),
         4 => thicknesses_field(file, at, tag, t),
         5 => wedge_field(file, at, tag),
-        0 | 6..=255 => no_field(file, at, tag),
+        6..=8 => plain_field(file, at, tag, 4 * n),
+        9 => plain_field(file, at, tag, 8 * n),
+        0 | 10..=255 => plain_field(file, at, tag, 0),
     }
 }

@@ -35,7 +35,12 @@ fn fields_test(file: &[u8]) -> Tested
 {
     let rows = words::numbers::byte_at(file, 3) as u32;
     let columns = words::numbers::byte_at(file, 4) as u32;
-    view::fields_test(file, shape::area(rows, columns), shape::ring(rows, columns))
+    view::fields_test(
+        file,
+        shape::area(rows, columns),
+        shape::ring(rows, columns),
+        5,
+    )
 }
 
 // Reads a film file into lent buffers of 1,024 weights and 1,156 thicknesses; places beyond those used keep their contents.

@@ -11,7 +11,7 @@ use model::Tested;
 
 // Refusals 1, 2 and 3: a header at `at`, with that tag and that length, and the whole body after it.
 pub fn header_test(file: &[u8], at: usize, tag: u8, size: usize) -> Tested
-    requires { ⌜ (at ≤ 1000000) × (size ≤ 1000000) ⌝ }
+    requires { ⌜ (at ≤ 6000000) × (size ≤ 1000000) ⌝ }
     ensures { λ r. ⌜ checkOf r ≡ fieldAt (now (file .entry)) at tag size ⌝ }
 {
     let end = file.len();

@@ -49,7 +49,7 @@ fn bad_thickness(thickness: u8) -> bool
 
 // Refusal 7, at the lowest place: the thicknesses begin at offset `at`.
 pub fn thicknesses_test(thicknesses: &[u8], at: usize) -> Tested
-    requires { ⌜ at + length (now thicknesses) ≤ 1000000 ⌝ }
+    requires { ⌜ at + length (now thicknesses) ≤ 6000000 ⌝ }
     ensures { λ r. ⌜ checkOf r ≡ failFirst (λ j. outside (getD (now (thicknesses .entry)) j 0) 1 thicknessLimit) (length (now (thicknesses .entry))) 7 (λ j. at + j) ⌝ }
 {
     let mut i = 0;

@@ -73,7 +73,7 @@ within x low high e = let t = or-parts (ltb x low) (ltb high x) e in (ltb-false 
 edge : (a b link : ℕ) → (leb a b && ltb 0 link) ≡ false → a ≤ b → link ≡ 0
 edge a b link e h = let z : ltb 0 link ≡ false = rw (le-leb a b h) at e in omega (arith, ltb-false 0 link z)
 
-fits-lengths : (f : Film) → filmFits f ≡ true
+pub fits-lengths : (f : Film) → filmFits f ≡ true
     → (length (f .weights) ≡ sizeOf f) × (length (f .diagonals) ≡ sizeOf f) × (length (f .rights) ≡ sizeOf f)
     × (length (f .ups) ≡ sizeOf f) × (length (f .sources) ≡ sizeOf f)
 unfolding filmFits

@@ -19,15 +19,15 @@ use Rattle.model.specs.Accepted.{Accepted}
 use Rattle.model.specs.Result.{Answer, answered, refused, answerBy, refusalIn}
 use Rattle.model.specs.Proposal.{ProposalAnswer, propose, lineStart}
 use Rattle.model.specs.Run.{RunAnswer, run, runCheck}
-use Rattle.model.specs.Gauge.{Gauge}
-use Rattle.model.specs.Coefficients.{formed}
-use Rattle.model.specs.File.{readFilm, Bytes}
+use Rattle.model.specs.File.{Bytes}
+use Rattle.model.specs.EitherFile.{readEither}
 use Rattle.model.specs.Demand.{Call, Step, ran, proposed, callOf, callsOf, exitOf, refusalOf, verdictOf, Kept, zeroField, History, ruled, ruledAll, callCheck, Holds, Claimed}
 use Rattle.model.proofs.Film.{rule-monotone, feasible-to, feasible-from, least-is, least-exists, least-feasible}
 use Rattle.model.proofs.Checks.{check-passes, accepted-positive}
 use Rattle.model.proofs.Refused.{run-refused, propose-refused}
 use Rattle.model.proofs.History.{step-good}
-use Rattle.model.proofs.Forming.{field-accepted, file-film}
+use Rattle.model.proofs.Forming.{field-accepted}
+use Rattle.model.proofs.EitherFile.{file-film}
 
 -- ---- the steps are those that the rules give
 
@@ -123,5 +123,7 @@ film-claimed f e = accepted-claimed f ((check-passes f true pass pass pass e) .f
 -- length or line alone, and then the field stays as it was; it only rises and never passes a feasible field; Done is the least feasible field,
 -- always the same; Over means that no field is feasible; and runs whose budget covers every cell are answered Stopped at most as often as the
 -- least field's total says.
-pub demand-3 : (bytes : List ℕ) (g : Gauge) → Bytes bytes → readFilm bytes ≡ answered g → Claimed (formed g)
-demand-3 bytes g b e = film-claimed (formed g) (file-film bytes g b e)
+-- "An accepted film file" is one of either kind: `readEither` reads it, and `gauged-either` and `coefficients-either` say that it does so
+-- just as the reader of its kind.
+pub demand-3 : (bytes : List ℕ) (f : Film) → Bytes bytes → readEither bytes ≡ answered f → Claimed f
+demand-3 bytes f b e = film-claimed f (file-film bytes f b e)

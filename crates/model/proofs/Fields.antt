@@ -6,8 +6,8 @@
 use mathlib.Core.Path.{_≡_, refl, sym, ap, ap₂, _∙_, subst}
 use mathlib.Core.Bool.{not}
 use mathlib.Core.List.{List, [], _∷_, _++_, append-assoc, append-nil}
-use Prim.Native.Nat.{ℕ, zero, suc, _+_, _/_, _%_, _≤_, _<_}
-use native.Mathlib.Nat.{le-refl, zero-add, add-zero, suc-add}
+use Prim.Native.Nat.{ℕ, suc, _+_, _/_, _%_, _≤_, _<_}
+use native.Mathlib.Nat.{le-refl, add-zero}
 use native.Mathlib.Omega.{arith}
 use borrow.Author.Tests.{le-ltb, eq-eqb, ltb-false, eqb-true, not-false}
 use lib.Dec.{ltb, eqb}
@@ -17,7 +17,8 @@ use Rattle.model.specs.Lists.{tabulate}
 use Rattle.model.specs.Refusals.{pass, _orElse_, failIf}
 use Rattle.model.specs.Bytes.{byteAt, wordAt}
 use Rattle.model.specs.Fields.{Field, body, behind, fieldsEnd, fieldAt, fieldTest, walk, field, bytesOf}
-use Rattle.model.specs.File.{Bytes}
+use Rattle.model.specs.File.{fieldsCheck, Bytes}
+use Rattle.model.proofs.Lists.{tabulate-is, tabulate-add}
 use Rattle.model.proofs.Checks.{orElse-assoc, orElse-parts, failIf-pass, pass-both}
 
 -- ---- a walk that passes
@@ -79,11 +80,6 @@ abbrev pub bodiesIn : List Field → List ℕ → ℕ → List (List ℕ)
 bodiesIn [] bytes at = []
 bodiesIn (f ∷ fs) bytes at = tabulate (f .size) (λ j. byteAt bytes (body at + j)) ∷ bodiesIn fs bytes (behind at (f .size))
 
--- a list by index, in two parts
-tabulate-add : (a b : ℕ) (f : ℕ → ℕ) → tabulate (a + b) f ≡ tabulate a f ++ tabulate b (λ j. f (a + j))
-tabulate-add zero b f = simp zero-add
-tabulate-add (suc a) b f = simp suc-add (ap (λ r. f 0 ∷ r) (tabulate-add a b (λ j. f (suc j))))
-
 module _ {l : List ℕ} (B : Bytes l) where
   -- a file up to the end of a field is the file up to its start, and the field with the body that stands there
   upTo : {at tag size : ℕ} → Header l at tag size
@@ -110,6 +106,23 @@ module _ {l : List ℕ} (B : Bytes l) where
       walked fs next (p .2)
       ∙ ap (λ r. r ++ rest) (upTo (header l at (f .tag) (f .size) (p .0)))
       ∙ append-assoc (tabulate at (byteAt l)) _ rest
+
+-- ---- a whole file
+
+-- its fields pass, and nothing follows them
+pub fields-pass : (fs : List Field) (l : List ℕ) → fieldsCheck fs l ≡ pass → Passes fs l 0 × (length l ≤ fieldsEnd fs 0)
+fields-pass fs l e =
+    let a = orElse-parts (walk fs l 0) _ e in
+    (walk-passes fs l 0 (a .0), ltb-false _ _ (failIf-pass _ 2 _ (a .1)))
+
+pub pass-fields : (fs : List Field) (l : List ℕ) → Passes fs l 0 → length l ≤ fieldsEnd fs 0 → fieldsCheck fs l ≡ pass
+pass-fields fs l p h = pass-both (passes-walk fs l 0 p) (rw (le-ltb (fieldsEnd fs 0) (length l) h))
+
+-- then it is those fields, with the bodies that stand there
+pub whole-file : {l : List ℕ} (B : Bytes l) (fs : List Field) → Passes fs l 0 → length l ≤ fieldsEnd fs 0 → bytesOf fs (bodiesIn fs l 0) ≡ l
+whole-file {l} B fs p h =
+    let len : length l ≡ fieldsEnd fs 0 = omega (arith, h, passes-end fs l 0 p (omega arith)) in
+    sym (walked B fs 0 p) ∙ sym (tabulate-is (fieldsEnd fs 0) (byteAt l) 0 l len (λ i b. refl))
 
 -- ---- what is written stands at its offsets
 

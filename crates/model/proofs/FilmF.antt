@@ -1,4 +1,4 @@
--- Film F's starred edges, each by computing; and by computing too, its report and the line with proposals on.
+-- Film F's starred edges, each by computing; and by computing too, its report, the line with proposals on, and its coefficient film.
 use mathlib.Core.Path.{refl}
 use Rattle.monotone.specs.Sweep.{sweep}
 use Rattle.model.specs.Lists.{firstOf}
@@ -13,7 +13,8 @@ use Rattle.model.specs.File.{fileCheck, gaugeDominance}
 use Rattle.model.specs.Report.{decimalDigits, peakOf, cellLines}
 use lib.Ieee.{add, sub, mul, div, lt, le, ofInt, eq, sum, neg, round, size, span, climb, units, odd}
 use lib.Count.{trailingZeros}
-use Rattle.model.specs.FilmF.{Edges, bytesF, reportF, Computed}
+use Rattle.model.specs.CoefficientFile.{coefficientFileCheck, coefficientFileOf}
+use Rattle.model.specs.FilmF.{Edges, bytesF, reportF, Computed, convertedF, CoefficientEdges}
 
 pub film-f : Edges
 unfolding sweep firstOf beside across neighbours filmFits badCoefficient zeroWeight notDominant sizeCheck coefficientCheck weightCheck dominanceCheck margin orderOf readied run
@@ -40,3 +41,22 @@ film-f =
 pub film-f-computed : Computed
 unfolding bytesF reportF sweep firstOf beside across neighbours filmFits badCoefficient zeroWeight notDominant sizeCheck coefficientCheck weightCheck dominanceCheck margin orderOf readied run fileCheck fieldAt gaugeDominance decimalDigits peakOf cellLines eliminate substitute floorOf wholePart eliminated solved estimate add sub mul div lt le ofInt eq sum neg round size span climb units odd trailingZeros proposeOwn proposeLines raisedBy riseCount withinCeiling tight propose
 film-f-computed = record { report = refl; estimated = refl; proposals-on = refl }
+
+pub film-f-coefficients : CoefficientEdges
+unfolding bytesF convertedF reportF sweep firstOf beside across neighbours badCoefficient notDominant coefficientCheck dominanceCheck orderOf readied run fileCheck coefficientFileCheck coefficientFileOf fieldAt gaugeDominance decimalDigits peakOf cellLines
+film-f-coefficients =
+    record {
+      writes = refl;
+      reads = refl;
+      report = refl;
+      not-gauged = refl;
+      not-coefficients = refl;
+      tag-alone = refl;
+      without-last = refl;
+      with-another = refl;
+      diagonal-0 = refl;
+      lowest-cell = refl;
+      source-least = refl;
+      link-out = refl;
+      not-dominant = refl;
+    }

@@ -14,25 +14,24 @@ use Rattle.model.specs.Limits.{sideLimit, ceilingLimit, thicknessLimit, 
 use Rattle.model.specs.Lists.{tabulate, firstOf}
 use Rattle.monotone.specs.Rule.{Bounded}
 use Rattle.model.specs.Refusals.{Check, pass, _orElse_, failIf, failFirst}
-use Rattle.model.specs.Result.{answered}
 use Rattle.model.specs.Gauge.{Gauge, thicknessAt}
 use Rattle.model.specs.Film.{Film, sizeOf, weightAt, rule}
 use Rattle.model.specs.Coefficients.{linkOf, formedDiagonal, formedRight, formedUp, formedSource, byCell, formed}
 use Rattle.model.specs.Checks.{outside, filmFits, badCoefficient, zeroWeight, notDominant, sizeCheck, coefficientCheck, weightCheck, dominanceCheck, startCheck, numericCheck, filmCheck, fieldCheck}
 use Rattle.model.specs.Accepted.{Sized, LimitedCell, Limited, Accepted}
-use Rattle.model.specs.File.{cells, ringed, ceilingOffset, weightsOffset, thicknessesOffset, gaugeDominance, readFilm, gaugeCheck, Bytes, Values}
+use Rattle.model.specs.File.{cells, ringed, ceilingOffset, weightsOffset, thicknessesOffset, gaugeDominance, gaugeCheck, Values}
 use Rattle.model.proofs.Integers.{sub-pos, sub-lt, sub-le, by-order}
 use Rattle.model.proofs.Lists.{tabulate-length, tabulate-at, first-hit}
 use Rattle.model.proofs.Checks.{within, failIf-pass, failFirst-pass}
-use Rattle.model.proofs.File.{NumbersPassed, gauge-passes, gauge-shape, wedge-low, read-values}
+use Rattle.model.proofs.File.{NumbersPassed, gauge-passes, gauge-shape, wedge-low}
 
 -- ---- an accepted film passes its tests: the converse of what passed tests say
 
-outside-false : (x low high : ℕ) → low ≤ x → x ≤ high → outside x low high ≡ false
+pub outside-false : (x low high : ℕ) → low ≤ x → x ≤ high → outside x low high ≡ false
 outside-false x low high h k = rw (le-ltb x low h, le-ltb high x k)
 
 -- a search that finds no fault
-pass-first : (bad : ℕ → Bool) (n number : ℕ) (place : ℕ → ℕ) → ((i : ℕ) → i < n → bad i ≡ false) → failFirst bad n number place ≡ pass
+pub pass-first : (bad : ℕ → Bool) (n number : ℕ) (place : ℕ → ℕ) → ((i : ℕ) → i < n → bad i ≡ false) → failFirst bad n number place ≡ pass
 pass-first bad n number place h =
     by-order (firstOf bad n) n
     (λ l. absurd (true≢false (sym (first-hit bad n l) ∙ h (firstOf bad n) l)))
@@ -215,7 +214,7 @@ module _ (g : Gauge) (p : NumbersPassed g) where
   pub formed-limited : length (g .weights) ≡ cells (g .rows) (g .columns) → Limited (formed g)
   formed-limited e = record { sized = sized-formed e; cell = cell-formed }
 
--- .. where that one passes too, they are accepted, ..
+-- .. where that one passes too, they are accepted.
 pub formed-accepted : (g : Gauge) → Values g → gaugeCheck g true ≡ pass → Accepted (formed g)
 unfolding gaugeDominance notDominant
 formed-accepted g v e =
@@ -227,11 +226,3 @@ formed-accepted g v e =
       weight = λ i h. omega (arith, eqb-false (getD (g .weights) i 0) 0 (none i h));
       dominant = failFirst-pass (notDominant (formed g)) n 9 (λ i. i) (p .dominant);
     }
-
--- .. and so pass the tests of the calls that take coefficients; ..
-pub formed-passes : (g : Gauge) → Values g → gaugeCheck g true ≡ pass → filmCheck (formed g) ≡ pass
-formed-passes g v e = accepted-passes (formed g) (formed-accepted g v e)
-
--- .. those of an accepted file do.
-pub file-film : (bytes : List ℕ) (g : Gauge) → Bytes bytes → readFilm bytes ≡ answered g → filmCheck (formed g) ≡ pass
-file-film bytes g B e = let r = read-values bytes g B e in formed-passes g (r .0) (r .1)

@@ -24,7 +24,7 @@ answer-passed pass b e = (refl, cc)
 answer-passed (fail number place) b e = let z : _≡_ {A = ℕ} 0 1 = cc in absurd (omega arith)
 
 -- the film's own tests, from those of the writer
-save-gauge : (g : Gauge) (fits : Bool) → gaugeCheck g fits ≡ pass → gaugeCheck g true ≡ pass
+pub save-gauge : (g : Gauge) (fits : Bool) → gaugeCheck g fits ≡ pass → gaugeCheck g true ≡ pass
 unfolding gaugeCheck
 save-gauge g fits e =
     let a = orElse-parts (shapeCheck (g .rows) rowsOffset (g .columns) columnsOffset) _ e in
@@ -51,12 +51,13 @@ write-read g out out′ weights thicknesses weights′ thicknesses′ answer v s
     }
 
 -- what was laid over the start of a buffer stands there
-take-front : (l r : List ℕ) → take (length l) (l ++ r) ≡ l
-take-front [] r = refl
-take-front (x ∷ l) r = ap (λ k. x ∷ k) (take-front l r)
+module _ {A : Type 0} where
+  take-front : (l r : List A) → take (length l) (l ++ r) ≡ l
+  take-front [] r = refl
+  take-front (x ∷ l) r = ap (λ k. x ∷ k) (take-front l r)
 
-laid : (l before : List ℕ) {after : List ℕ} {n : ℕ} → after ≡ laidOver l before → length l ≡ n → take n after ≡ l
-laid l before {after} {n} e h = ap (take n) e ∙ ap (λ k. take k (laidOver l before)) (sym h) ∙ take-front l (drop (length l) before)
+  pub laid : (l before : List A) {after : List A} {n : ℕ} → after ≡ laidOver l before → length l ≡ n → take n after ≡ l
+  laid l before {after} {n} e h = ap (take n) e ∙ ap (λ (k : ℕ). take k (laidOver l before)) (sym h) ∙ take-front l (drop (length l) before)
 
 -- What the reader answers is what the file's bytes say: the film whose numbers it laid over its buffers, ..
 pub read-film : (bytes weights thicknesses weights′ thicknesses′ : List ℕ) (h : Head) (wedge : ℤ) → Bytes bytes
@@ -84,7 +85,7 @@ read-film bytes weights thicknesses weights′ thicknesses′ h wedge B L =
     reads ∙ ap answered (sym same)
 
 -- .. or the file's refusal.
-refused-same : {A B : Type 0} (c : Check) (a : A) (b : B) {number place : ℕ} → refused number place ≡ answerBy c a → answerBy c b ≡ refused number place
+pub refused-same : {A B : Type 0} (c : Check) (a : A) (b : B) {number place : ℕ} → refused number place ≡ answerBy c a → answerBy c b ≡ refused number place
 refused-same pass a b e = let z : _≡_ {A = ℕ} 0 1 = cc in absurd (omega arith)
 refused-same (fail n k) a b e = cc
 

@@ -15,12 +15,17 @@ pub mod Refused
 pub mod Numbered
 pub mod History
 pub mod Demand
+pub mod Codes
 pub mod Fields
+pub mod Opening
 pub mod File
 pub mod Inverse
 pub mod Session
 pub mod Prefix
 pub mod Forming
+pub mod CoefficientFile
+pub mod EitherFile
+pub mod CoefficientInverse
 pub mod FilmF
 pub mod Digits
 pub mod Peak

@@ -1,9 +1,9 @@
 -- Laws of lists by index, of the least index that passes a test, of counts and of the greatest.
 use mathlib.Core.Path.{_≡_, refl, sym, ap, _∙_}
 use mathlib.Core.Bool.{Bool, true, false, cond, false≢true}
-use mathlib.Core.List.{List}
+use mathlib.Core.List.{List, _∷_, _++_}
 use Prim.Native.Nat.{ℕ, zero, suc, _+_, _≤_, _<_, max}
-use native.Mathlib.Nat.{le-refl, le-antisymm, le-of-suc-le-suc}
+use native.Mathlib.Nat.{le-refl, le-antisymm, le-of-suc-le-suc, zero-add, suc-add}
 use native.Mathlib.Numerals.{add-one}
 use native.Mathlib.Decide.{decLt}
 use native.Mathlib.Omega.{arith}
@@ -26,6 +26,17 @@ module _ {A : Type 0} where
   pub tabulate-is : (n : ℕ) (g : ℕ → A) (d : A) (l : List A) → length l ≡ n → ((i : ℕ) → i < n → getD l i d ≡ g i) → l ≡ tabulate n g
   tabulate-is n g d l e h =
       ext-getD d l (tabulate n g) (e ∙ sym (tabulate-length n g)) (λ i b. h i (omega arith) ∙ sym (tabulate-at n g d i (omega arith)))
+
+-- a list by index, in two parts
+pub tabulate-add : (a b : ℕ) (f : ℕ → ℕ) → tabulate (a + b) f ≡ tabulate a f ++ tabulate b (λ j. f (a + j))
+tabulate-add zero b f = simp zero-add
+tabulate-add (suc a) b f = simp suc-add (ap (λ r. f 0 ∷ r) (tabulate-add a b (λ j. f (suc j))))
+
+-- a bound of its numbers holds of every index, past its end too
+pub tabulate-below : (n : ℕ) (f : ℕ → ℕ) (k : ℕ) → 0 < k → ((i : ℕ) → f i < k) → (i : ℕ) → getD (tabulate n f) i 0 < k
+tabulate-below zero f k z h i = z
+tabulate-below (suc n) f k z h zero = h 0
+tabulate-below (suc n) f k z h (suc i) = tabulate-below n (λ i. f (suc i)) k z (λ i. h (suc i)) i
 
 -- past its end a list counts as 0, so that a bound need be shown for its n numbers only
 pub getD-low : (l : List ℕ) (n k : ℕ) → length l ≡ n → ((i : ℕ) → i < n → getD l i 0 ≤ k) → (i : ℕ) → getD l i 0 ≤ k

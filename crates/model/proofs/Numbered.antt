@@ -5,7 +5,7 @@ use mathlib.Core.List.{List, [], _∷_}
 use Prim.Native.Nat.{ℕ, _+_, _*_, _<_}
 use native.Mathlib.Omega.{arith}
 use lib.Dec.{ltb, eqb}
-use lib.IntN.{natAbs}
+use lib.IntN.{ℤ, natAbs}
 use lib.ListN.{length, getD}
 use Rattle.model.specs.Limits.{sideLimit, ceilingLimit, thicknessLimit, wedgeLimit}
 use Rattle.model.specs.Lists.{firstOf}
@@ -16,8 +16,10 @@ use Rattle.model.specs.Coefficients.{formed}
 use Rattle.model.specs.Checks.{outside, filmFits, badCoefficient, zeroWeight, notDominant, sizeCheck, coefficientCheck, weightCheck, dominanceCheck, orderCheck, lineCheck, fieldCheck}
 use Rattle.model.specs.Bytes.{byteAt, wordAt, longAt, signedOf}
 use Rattle.model.specs.Fields.{Field, body, behind, fieldsEnd, fieldAt, walk}
-use Rattle.model.specs.File.{shapeField, ceilingField, weightsField, thicknessesField, wedgeField, gauged, cellsIn, ringIn, gaugeIn, gaugeDominance, fileCheck}
+use Rattle.model.specs.File.{shapeField, ceilingField, weightsField, thicknessesField, wedgeField, gauged, cellsIn, ringIn, gaugeIn, gaugeDominance, fieldsCheck, fileCheck}
 use Rattle.model.specs.FileCalls.{loadCheck}
+use Rattle.model.specs.CoefficientFile.{coefficientFields, filmIn, coefficientFileCheck}
+use Rattle.model.specs.CoefficientCalls.{buffersFit, coefficientLoadCheck}
 use Rattle.model.specs.Proposal.{rowCheck}
 use Rattle.model.specs.Run.{runCheck}
 
@@ -78,24 +80,35 @@ walk-numbered [] bytes at all = by-pass
 walk-numbered (f ∷ fs) bytes at all =
     by-or _ _ (by-or _ _ (field-at-numbered bytes at (f .tag) (f .size)) (all .0 bytes (body at))) (walk-numbered fs bytes (behind at (f .size)) (all .1))
 
+shape-numbered : (bytes : List ℕ) (at : ℕ) → Numbered (shapeField .check bytes at)
+shape-numbered bytes at =
+    by-or _ _ (by-if (outside (byteAt bytes at) 1 sideLimit) 4 at (omega arith)) (by-if (outside (byteAt bytes (at + 1)) 1 sideLimit) 4 (at + 1) (omega arith))
+
+ceiling-numbered : (bytes : List ℕ) (at : ℕ) → Numbered (ceilingField .check bytes at)
+ceiling-numbered bytes at = by-if (outside (longAt bytes at) 1 ceilingLimit) 5 at (omega arith)
+
+weights-numbered : (n : ℕ) (bytes : List ℕ) (at : ℕ) → Numbered (weightsField n .check bytes at)
+weights-numbered n bytes at = by-first (λ i. eqb (wordAt bytes (at + 2 * i)) 0) n 6 (λ i. at + 2 * i) (omega arith)
+
 gauged-numbered : (n t : ℕ) → AllNumbered (gauged n t)
-gauged-numbered n t = (shape, (ceiling, (weights, (thicknesses, (wedge, tt)))))
+gauged-numbered n t = (shape-numbered, (ceiling-numbered, (weights-numbered n, (thicknesses, (wedge, tt)))))
   where
-    shape : (bytes : List ℕ) (at : ℕ) → Numbered (shapeField .check bytes at)
-    shape bytes at =
-        by-or _ _ (by-if (outside (byteAt bytes at) 1 sideLimit) 4 at (omega arith)) (by-if (outside (byteAt bytes (at + 1)) 1 sideLimit) 4 (at + 1) (omega arith))
-
-    ceiling : (bytes : List ℕ) (at : ℕ) → Numbered (ceilingField .check bytes at)
-    ceiling bytes at = by-if (outside (longAt bytes at) 1 ceilingLimit) 5 at (omega arith)
-
-    weights : (bytes : List ℕ) (at : ℕ) → Numbered (weightsField n .check bytes at)
-    weights bytes at = by-first (λ i. eqb (wordAt bytes (at + 2 * i)) 0) n 6 (λ i. at + 2 * i) (omega arith)
-
     thicknesses : (bytes : List ℕ) (at : ℕ) → Numbered (thicknessesField t .check bytes at)
     thicknesses bytes at = by-first (λ j. outside (byteAt bytes (at + j)) 1 thicknessLimit) t 7 (λ j. at + j) (omega arith)
 
     wedge : (bytes : List ℕ) (at : ℕ) → Numbered (wedgeField .check bytes at)
     wedge bytes at = by-if (ltb wedgeLimit (natAbs (signedOf (longAt bytes at)))) 8 at (omega arith)
+
+coefficients-numbered : (n : ℕ) → AllNumbered (coefficientFields n)
+coefficients-numbered n = (shape-numbered, (ceiling-numbered, (weights-numbered n, (untested, (untested, (untested, (untested, tt)))))))
+  where
+    untested : (bytes : List ℕ) (at : ℕ) → Numbered pass
+    untested bytes at = by-pass
+
+-- the fields of a file of either kind, and what follows them
+fields-numbered : (fields : List Field) (bytes : List ℕ) → AllNumbered fields → Numbered (fieldsCheck fields bytes)
+fields-numbered fields bytes all =
+    by-or _ _ (walk-numbered fields bytes 0 all) (by-if (ltb (fieldsEnd fields 0) (length bytes)) 2 (fieldsEnd fields 0) (omega arith))
 
 dominance-numbered : (g : Gauge) → Numbered (gaugeDominance g)
 unfolding gaugeDominance
@@ -104,8 +117,13 @@ dominance-numbered g = by-first (notDominant (formed g)) (g .rows * g .columns) 
 pub load-numbered : (bytes weights thicknesses : List ℕ) → Numbered (loadCheck bytes weights thicknesses)
 unfolding fileCheck
 load-numbered bytes weights thicknesses =
-    let fields = gauged (cellsIn bytes) (ringIn bytes) in
-    let buffers = by-if (not (eqb (length weights) 1024 && eqb (length thicknesses) 1156)) 10 0 (omega arith) in
-    let behind = by-if (ltb (fieldsEnd fields 0) (length bytes)) 2 (fieldsEnd fields 0) (omega arith) in
-    by-or _ _ buffers
-    (by-or _ _ (by-or _ _ (walk-numbered fields bytes 0 (gauged-numbered (cellsIn bytes) (ringIn bytes))) behind) (dominance-numbered (gaugeIn bytes)))
+    by-or _ _ (by-if (not (eqb (length weights) 1024 && eqb (length thicknesses) 1156)) 10 0 (omega arith))
+    (by-or _ _ (fields-numbered (gauged (cellsIn bytes) (ringIn bytes)) bytes (gauged-numbered (cellsIn bytes) (ringIn bytes))) (dominance-numbered (gaugeIn bytes)))
+
+pub coefficient-load-numbered : (bytes weights diagonals rights ups : List ℕ) (sources : List ℤ) → Numbered (coefficientLoadCheck bytes weights diagonals rights ups sources)
+unfolding coefficientFileCheck coefficientCheck dominanceCheck
+coefficient-load-numbered bytes weights diagonals rights ups sources =
+    let f = filmIn bytes in
+    by-or _ _ (by-if (not (buffersFit weights diagonals rights ups sources)) 10 0 (omega arith))
+    (by-or _ _ (fields-numbered (coefficientFields (cellsIn bytes)) bytes (coefficients-numbered (cellsIn bytes)))
+    (by-or _ _ (by-first (badCoefficient f) (sizeOf f) 14 (λ i. i) (omega arith)) (by-first (notDominant f) (sizeOf f) 9 (λ i. i) (omega arith))))

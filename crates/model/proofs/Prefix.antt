@@ -1,48 +1,40 @@
 -- What lies beyond the largest film cannot change what is read from a file, nor the report of it.
 --
 -- Two files that agree in as many bytes as the largest film has, and one more, are read alike: where the shape is refused, only the first
--- bytes were looked at; where it is not, the fields end within those bytes, and the numbers are the same.
-use mathlib.Core.Path.{_≡_, refl, ap, ap₂, _∙_}
+-- bytes were looked at; where it is not, the fields of either kind end within those bytes, and the numbers are the same.
+use mathlib.Core.Path.{_≡_, refl, sym, ap, ap₂, _∙_}
+use mathlib.Core.Bool.{cond}
 use mathlib.Core.List.{List}
 use Prim.Native.Nat.{ℕ, _+_, _*_, _≤_, _<_}
-use native.Mathlib.Nat.{mul-le-mul}
+use native.Mathlib.Nat.{mul-le-mul, mul-le-mul-left, mul-suc}
 use native.Mathlib.Decide.{decLt}
 use native.Mathlib.Omega.{arith}
 use borrow.Author.Tests.{lt-ltb}
 use lib.Dec.{eqb}
+use lib.IntN.{pos}
 use lib.ListN.{length, take}
 use lib.Seq.{length-take-le, take-all, getD-take}
-use Rattle.model.specs.Limits.{sideLimit, thicknessLimit}
+use Rattle.model.specs.Limits.{thicknessLimit}
 use Rattle.model.specs.Lists.{tabulate}
 use Rattle.model.specs.Refusals.{Check, pass, fail, _orElse_}
 use Rattle.model.specs.Gauge.{Gauge}
-use Rattle.model.specs.Checks.{outside, shapeCheck, ceilingCheck}
-use Rattle.model.specs.Bytes.{byteAt, wordAt, longAt, signedOf}
-use Rattle.model.specs.Fields.{fieldAt, unexpectedAt}
-use Rattle.model.specs.File.{cells, ringed, wedgeCheck, shapeField, ceilingField, weightsField, thicknessesField, wedgeField, gauged, rowsOffset, columnsOffset, ceilingOffset, weightsOffset, thicknessesOffset, wedgeOffset, endOffset, cellsIn, ringIn, gaugeIn, gaugeDominance, fieldsCheck, fileCheck, readFilm}
+use Rattle.model.specs.Film.{Film, sizeOf}
+use Rattle.model.specs.Checks.{outside, shapeCheck, ceilingCheck, coefficientCheck, dominanceCheck}
+use Rattle.model.specs.Bytes.{byteAt, wordAt, signedOf}
+use Rattle.model.specs.Fields.{Field, fieldsEnd, fieldAt, fieldTest, unexpectedAt}
+use Rattle.model.specs.File.{cells, ringed, wedgeCheck, shapeField, ceilingField, weightsField, thicknessesField, wedgeField, opening, gauged, rowsOffset, columnsOffset, ceilingOffset, weightsOffset, thicknessesOffset, wedgeOffset, cellsIn, ringIn, gaugeIn, gaugeDominance, fieldsCheck, fileCheck, readFilm}
+use Rattle.model.specs.CoefficientFile.{numbersField, coefficientFields, diagonalsOffset, rightsOffset, upsOffset, sourcesOffset, filmIn, coefficientFileCheck, readCoefficients}
+use Rattle.model.specs.EitherFile.{tagged06, formedBy, readEither}
 use Rattle.model.specs.Result.{answerBy}
 use Rattle.model.specs.Report.{reportBy, reportOf, enough}
 use Rattle.model.proofs.Lists.{tabulate-length, tabulate-at, tabulate-is}
-use Rattle.model.proofs.Checks.{failFirst-same}
+use Rattle.model.proofs.Checks.{orElse-parts, failFirst-same}
+use Rattle.model.proofs.Codes.{Code, word-code, long-code, signed-long-code, signed-quad-code}
 use Rattle.model.proofs.Fields.{Agree, Local, AllLocal, field-same, walk-same}
-use Rattle.model.proofs.File.{Shaped, gauge-shape}
-
--- a film within the limits of its shape ends before that
-shaped-end : (g : Gauge) → Shaped g → endOffset (cells (g .rows) (g .columns)) (ringed (g .rows) (g .columns)) < enough
-shaped-end g s =
-    let count : g .rows * g .columns ≤ sideLimit * sideLimit = mul-le-mul (s .rows-low) (s .columns-low) in
-    omega arith
+use Rattle.model.proofs.Opening.{Shaped, shape-passes}
+use Rattle.model.proofs.EitherFile.{shape-refused}
 
 -- ---- a film's fields look at their bodies alone
-
--- numbers of two and of four bytes in files that agree there
-module _ (l m : List ℕ) (from end : ℕ) (same : (k : ℕ) → from ≤ k → k < end → byteAt l k ≡ byteAt m k) where
-  word-alike : (at : ℕ) → from ≤ at → at + 1 < end → wordAt l at ≡ wordAt m at
-  word-alike at h b = ap₂ (λ x y. x * 256 + y) (same at h (omega arith)) (same (at + 1) (omega arith) b)
-
-  long-alike : (at : ℕ) → from ≤ at → at + 3 < end → longAt l at ≡ longAt m at
-  long-alike at h b =
-      ap₂ (λ x y. x * 65536 + y) (word-alike at h (omega arith)) (word-alike (at + 2) (omega arith) (omega arith))
 
 shape-local : Local shapeField
 shape-local =
@@ -50,14 +42,14 @@ shape-local =
 
 ceiling-local : Local ceilingField
 ceiling-local =
-    record { alike = λ l m at same. ap (λ c. ceilingCheck c at) (long-alike l m at (at + 4) same at (omega arith) (omega arith)) }
+    record { alike = λ l m at same. ap (λ c. ceilingCheck c at) (long-code .alike l m at same) }
 
 weights-local : (n : ℕ) → Local (weightsField n)
 weights-local n =
     record {
       alike = λ l m at same.
           failFirst-same _ _ n 6 (λ i. at + 2 * i)
-          (λ i h. ap (λ w. eqb w 0) (word-alike l m at (at + 2 * n) same (at + 2 * i) (omega arith) (omega arith)));
+          (λ i h. ap (λ w. eqb w 0) (word-code .alike l m (at + 2 * i) (λ k g b. same k (omega arith) (omega arith))));
     }
 
 thicknesses-local : (t : ℕ) → Local (thicknessesField t)
@@ -70,26 +62,32 @@ thicknesses-local t =
 
 wedge-local : Local wedgeField
 wedge-local =
-    record { alike = λ l m at same. ap (λ w. wedgeCheck (signedOf w) at) (long-alike l m at (at + 4) same at (omega arith) (omega arith)) }
+    record { alike = λ l m at same. ap (λ w. wedgeCheck (signedOf w) at) (long-code .alike l m at same) }
+
+numbers-local : (tag width n : ℕ) → Local (numbersField tag width n)
+numbers-local tag width n = record { alike = λ l m at same. refl }
 
 gauged-local : (n t : ℕ) → AllLocal (gauged n t)
 gauged-local n t = (shape-local, (ceiling-local, (weights-local n, (thicknesses-local t, (wedge-local, tt)))))
 
--- ---- two files
+coefficients-local : (n : ℕ) → AllLocal (coefficientFields n)
+coefficients-local n = (
+  shape-local,
+  (ceiling-local, (weights-local n, (numbers-local 6 4 n, (numbers-local 7 4 n, (numbers-local 8 4 n, (numbers-local 9 8 n, tt)))))),
+)
+
+-- films within the limits of their shape end before that
+few-cells : {rows columns : ℕ} → Shaped rows columns → cells rows columns ≤ 1024
+few-cells s = let count = mul-le-mul (s .rows-low) (s .columns-low) in omega arith
+
+gauged-near : {rows columns : ℕ} → Shaped rows columns → fieldsEnd (gauged (cells rows columns) (ringed rows columns)) 0 < enough
+gauged-near s = let few = few-cells s in omega arith
+
+-- ---- two files that agree so far
 
 -- lists by index are equal where their numbers are
-tabulate-same : (n : ℕ) (f g : ℕ → ℕ) → ((i : ℕ) → i < n → f i ≡ g i) → tabulate n f ≡ tabulate n g
-tabulate-same n f g h = tabulate-is n g 0 (tabulate n f) (tabulate-length n f) (λ i b. tabulate-at n f 0 i b ∙ h i b)
-
--- a test that fails refuses the file, whatever stands after it
-stopped : (x y z w u v s t : Check) (g h : Gauge) (number place : ℕ) → y ≡ fail number place
-    → answerBy ((((x orElse y) orElse z) orElse u) orElse s) g ≡ answerBy ((((x orElse y) orElse w) orElse v) orElse t) h
-stopped pass y z w u v s t g h number place e = rw e
-stopped (fail a b) y z w u v s t g h number place e = refl
-
--- the test of a file's shape
-abbrev shapeIn : List ℕ → Check
-shapeIn l = shapeCheck (byteAt l rowsOffset) rowsOffset (byteAt l columnsOffset) columnsOffset
+tabulate-same : {A : Type 0} (d : A) (n : ℕ) (f g : ℕ → A) → ((i : ℕ) → i < n → f i ≡ g i) → tabulate n f ≡ tabulate n g
+tabulate-same d n f g h = tabulate-is n g d (tabulate n f) (tabulate-length n f) (λ i b. tabulate-at n f d i b ∙ h i b)
 
 -- a file cut there agrees with the whole
 cut-agrees : (l : List ℕ) → enough ≤ length l → Agree enough (take enough l) l
@@ -101,77 +99,117 @@ cut-agrees l h =
     }
 
 module _ (l m : List ℕ) (A : Agree enough l m) where
-  -- the shape is the same ..
+  -- the shape is the same, ..
   rows-same : byteAt l rowsOffset ≡ byteAt m rowsOffset
   rows-same = A .same rowsOffset (omega arith)
 
   columns-same : byteAt l columnsOffset ≡ byteAt m columnsOffset
   columns-same = A .same columnsOffset (omega arith)
 
-  within-same : (k : ℕ) → 0 ≤ k → k < enough → byteAt l k ≡ byteAt m k
-  within-same k z h = A .same k h
+  -- .. so is a number that ends within those bytes, and a list of numbers that does, ..
+  module _ {T : Type 0} {w : ℕ} {write : T → List ℕ} {read : List ℕ → ℕ → T} {Fits : T → Type 0} (c : Code w write read Fits) where
+    number-same : (at : ℕ) → at + w ≤ enough → read l at ≡ read m at
+    number-same at h = c .alike l m at (λ k g b. A .same k (omega arith))
 
-  -- .. and where it is within its limits, so are all numbers in the file
-  gauge-same : Shaped (gaugeIn m) → gaugeIn l ≡ gaugeIn m
-  gauge-same s =
-      let n = cellsIn m in
-      let t = ringIn m in
-      let end = shaped-end (gaugeIn m) s in
-      let word-same = word-alike l m 0 enough within-same in
-      let long-same = long-alike l m 0 enough within-same in
-      let weights : gaugeIn l .weights ≡ gaugeIn m .weights =
-      rw (rows-same, columns-same) (tabulate-same n _ _ (λ i b. word-same (weightsOffset + 2 * i) (omega arith) (omega arith))) in
-      let thicknesses : gaugeIn l .thicknesses ≡ gaugeIn m .thicknesses =
-      rw (rows-same, columns-same) (tabulate-same t _ _ (λ j b. A .same (thicknessesOffset n + j) (omega arith))) in
-      let wedge : gaugeIn l .wedge ≡ gaugeIn m .wedge =
-      rw (rows-same, columns-same) (ap signedOf (long-same (wedgeOffset n t) (omega arith) (omega arith))) in
-      λ k. record {
-        rows = rows-same k;
-        columns = columns-same k;
-        ceiling = long-same ceilingOffset (omega arith) (omega arith) k;
-        weights = weights k;
-        thicknesses = thicknesses k;
-        wedge = wedge k;
-      }
+    list-same : (d : T) (from n : ℕ) → from + w * n ≤ enough → tabulate n (λ i. read l (from + w * i)) ≡ tabulate n (λ i. read m (from + w * i))
+    list-same d from n h =
+        tabulate-same d n _ _ (λ i b. number-same (from + w * i) (omega (arith, mul-le-mul-left w b, mul-suc w i)))
 
-  -- so do all tests of a film that ends there
-  fields-same : (n t : ℕ) → endOffset n t < enough → fieldsCheck (gauged n t) l ≡ fieldsCheck (gauged n t) m
-  fields-same n t h =
-      let behind : unexpectedAt l (endOffset n t) ≡ unexpectedAt m (endOffset n t) =
-      rw (lt-ltb (endOffset n t) (length l) (omega (arith, A .left)), lt-ltb (endOffset n t) (length m) (omega (arith, A .right))) in
-      ap₂ _orElse_ (walk-same A (gauged n t) 0 (gauged-local n t) (omega arith)) behind
+  -- .. and so are all tests of fields that do
+  fields-same : (fs : List Field) → AllLocal fs → fieldsEnd fs 0 < enough → fieldsCheck fs l ≡ fieldsCheck fs m
+  fields-same fs local h =
+      let behind : unexpectedAt l (fieldsEnd fs 0) ≡ unexpectedAt m (fieldsEnd fs 0) =
+      rw (lt-ltb (fieldsEnd fs 0) (length l) (omega (arith, A .left)), lt-ltb (fieldsEnd fs 0) (length m) (omega (arith, A .right))) in
+      ap₂ _orElse_ (walk-same A fs 0 local (omega arith)) behind
 
-  -- a file whose shape is within its limits is read alike
-  read-shaped : Shaped (gaugeIn m) → readFilm l ≡ readFilm m
-  unfolding fileCheck
-  read-shaped s =
-      let same = gauge-same s in
-      let checks : fileCheck l ≡ fileCheck m =
-      ap (λ (g : Gauge). fieldsCheck (gauged (cells (g .rows) (g .columns)) (ringed (g .rows) (g .columns))) l orElse gaugeDominance g) same
-      ∙ ap (λ c. c orElse gaugeDominance (gaugeIn m)) (fields-same (cellsIn m) (ringIn m) (shaped-end (gaugeIn m) s)) in
-      ap₂ answerBy checks same
+  -- ---- a shape within its limits: every number of the film stands within those bytes
 
-  -- so is one whose shape is refused
-  read-shapeless : (number place : ℕ) → shapeIn m ≡ fail number place → readFilm l ≡ readFilm m
-  unfolding fileCheck
-  read-shapeless number place e =
-      rw (field-same A 0 1 2 (omega arith), rows-same, columns-same)
-      (stopped (fieldAt m 0 1 2) (shapeIn m) _ _ _ _ _ _ _ _ number place e)
+  module _ (s : Shaped (byteAt m rowsOffset) (byteAt m columnsOffset)) where
+    abbrev n : ℕ
+    n = cellsIn m
 
-  -- and so all
-  read-same : readFilm l ≡ readFilm m
-  read-same = go (shapeIn m) refl
+    abbrev t : ℕ
+    t = ringIn m
+
+    low : n ≤ 1024
+    low = few-cells s
+
+    weights-same : tabulate (cellsIn l) (λ i. wordAt l (weightsOffset + 2 * i)) ≡ tabulate n (λ i. wordAt m (weightsOffset + 2 * i))
+    weights-same = rw (rows-same, columns-same) (list-same word-code 0 weightsOffset n (omega (arith, low)))
+
+    gauge-same : gaugeIn l ≡ gaugeIn m
+    gauge-same =
+        let end = gauged-near s in
+        let thicknesses : gaugeIn l .thicknesses ≡ gaugeIn m .thicknesses =
+        rw (rows-same, columns-same) (tabulate-same 0 t _ _ (λ j b. A .same (thicknessesOffset n + j) (omega (arith, end)))) in
+        let wedge : gaugeIn l .wedge ≡ gaugeIn m .wedge =
+        rw (rows-same, columns-same) (number-same signed-long-code (wedgeOffset n t) (omega (arith, end))) in
+        λ k. record {
+          rows = rows-same k;
+          columns = columns-same k;
+          ceiling = number-same long-code ceilingOffset (omega arith) k;
+          weights = weights-same k;
+          thicknesses = thicknesses k;
+          wedge = wedge k;
+        }
+
+    film-same : filmIn l ≡ filmIn m
+    film-same =
+        let diagonals : filmIn l .diagonals ≡ filmIn m .diagonals = rw (rows-same, columns-same) (list-same long-code 0 (diagonalsOffset n) n (omega (arith, low))) in
+        let rights : filmIn l .rights ≡ filmIn m .rights = rw (rows-same, columns-same) (list-same long-code 0 (rightsOffset n) n (omega (arith, low))) in
+        let ups : filmIn l .ups ≡ filmIn m .ups = rw (rows-same, columns-same) (list-same long-code 0 (upsOffset n) n (omega (arith, low))) in
+        let sources : filmIn l .sources ≡ filmIn m .sources = rw (rows-same, columns-same) (list-same signed-quad-code (pos 0) (sourcesOffset n) n (omega (arith, low))) in
+        λ k. record {
+          rows = rows-same k;
+          columns = columns-same k;
+          ceiling = number-same long-code ceilingOffset (omega arith) k;
+          weights = weights-same k;
+          diagonals = diagonals k;
+          rights = rights k;
+          ups = ups k;
+          sources = sources k;
+        }
+
+    -- so both readers read the two files alike, and the same one is chosen
+    gauged-same : readFilm l ≡ readFilm m
+    unfolding fileCheck
+    gauged-same =
+        let checks : fileCheck l ≡ fileCheck m =
+        ap (λ (g : Gauge). fieldsCheck (gauged (cells (g .rows) (g .columns)) (ringed (g .rows) (g .columns))) l orElse gaugeDominance g) gauge-same
+        ∙ ap (λ c. c orElse gaugeDominance (gaugeIn m)) (fields-same (gauged n t) (gauged-local n t) (gauged-near s)) in
+        ap₂ answerBy checks gauge-same
+
+    coefficients-same : readCoefficients l ≡ readCoefficients m
+    unfolding coefficientFileCheck
+    coefficients-same =
+        let checks : coefficientFileCheck l ≡ coefficientFileCheck m =
+        ap (λ (f : Film). fieldsCheck (coefficientFields (sizeOf f)) l orElse coefficientCheck f orElse dominanceCheck f) film-same
+        ∙ ap (λ c. c orElse coefficientCheck (filmIn m) orElse dominanceCheck (filmIn m)) (fields-same (coefficientFields n) (coefficients-local n) (omega (arith, low))) in
+        ap₂ answerBy checks film-same
+
+    tag-same : tagged06 l ≡ tagged06 m
+    tag-same = rw (rows-same, columns-same) (ap (λ b. eqb b 6) (A .same (fieldsEnd (opening n) 0) (omega (arith, low))))
+
+    shaped-same : readEither l ≡ readEither m
+    shaped-same = λ k. cond (tag-same k) (coefficients-same k) (formedBy (gauged-same k))
+
+  -- a shape that is refused is refused alike
+  shape-same : fieldTest shapeField l 0 ≡ fieldTest shapeField m 0
+  shape-same = ap₂ _orElse_ (field-same A 0 1 2 (omega arith)) (λ k. shapeCheck (rows-same k) rowsOffset (columns-same k) columnsOffset)
+
+  either-same : readEither l ≡ readEither m
+  either-same = go (fieldTest shapeField m 0) refl
     where
-      go : (c : Check) → shapeIn m ≡ c → readFilm l ≡ readFilm m
-      go pass e = read-shaped (gauge-shape (gaugeIn m) e)
-      go (fail number place) e = read-shapeless number place e
+      go : (c : Check) → fieldTest shapeField m 0 ≡ c → readEither l ≡ readEither m
+      go pass e = shaped-same (shape-passes _ _ rowsOffset columnsOffset (orElse-parts (fieldAt m 0 1 2) _ e .1))
+      go (fail number place) e = shape-refused l number place (shape-same ∙ e) ∙ sym (shape-refused m number place e)
 
 -- What lies beyond the largest film cannot change what is read: one byte more than the longest accepted file decides it ..
-pub read-prefix : (bytes : List ℕ) → readFilm (take enough bytes) ≡ readFilm bytes
+pub read-prefix : (bytes : List ℕ) → readEither (take enough bytes) ≡ readEither bytes
 read-prefix bytes =
     elim (decLt (length bytes) enough) [
-      | yes h ↦ ap readFilm (take-all enough bytes (omega arith))
-      | no h ↦ read-same (take enough bytes) bytes (cut-agrees bytes (omega arith))
+      | yes h ↦ ap readEither (take-all enough bytes (omega arith))
+      | no h ↦ either-same (take enough bytes) bytes (cut-agrees bytes (omega arith))
     ]
 
 -- .. nor the report.

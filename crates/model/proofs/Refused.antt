@@ -7,8 +7,11 @@ use lib.IntN.{ℤ}
 use Rattle.model.specs.Refusals.{Check, pass, fail}
 use Rattle.model.specs.Gauge.{Gauge}
 use Rattle.model.specs.Film.{Film}
+use Rattle.model.specs.Coefficients.{formed}
 use Rattle.model.specs.Result.{Answer, refused, answerBy, kept, Result, written, callBy, Gives}
 use Rattle.model.specs.FileCalls.{formCheck, Forms, saveCheck, saveCall, loadCheck, Loads}
+use Rattle.model.specs.CoefficientFile.{coefficientFileOf}
+use Rattle.model.specs.CoefficientCalls.{coefficientLoadCheck, LoadsCoefficients, coefficientSaveCheck, coefficientSaveCall, convertCheck, convertCall}
 use Rattle.model.specs.Relaxation.{relax, pointCheck, relaxCall}
 use Rattle.model.specs.Proposal.{lineStart, propose, rowCheck, proposeCall}
 use Rattle.model.specs.Estimate.{estimate, estimateCall}
@@ -46,10 +49,16 @@ module _ {number place : ℕ} {exit : List ℕ} where
   pub save-refused : (g : Gauge) (out : List ℕ) → Gives (saveCall g out) (refused number place) exit → exit ≡ out
   save-refused g out = call-refused (saveCheck g out) (written (fileOf g)) out
 
+  pub coefficient-save-refused : (f : Film) (out : List ℕ) → Gives (coefficientSaveCall f out) (refused number place) exit → exit ≡ out
+  coefficient-save-refused f out = call-refused (coefficientSaveCheck f out) (written (coefficientFileOf f)) out
+
+  pub convert-refused : (g : Gauge) (out : List ℕ) → Gives (convertCall g out) (refused number place) exit → exit ≡ out
+  convert-refused g out = call-refused (convertCheck g out) (written (coefficientFileOf (formed g))) out
+
   pub report-refused : (bytes out : List ℕ) → Gives (reportCall bytes out) (refused number place) exit → exit ≡ out
   report-refused bytes out = call-refused (bufferCheck out) _ out
 
--- .. and the calls with more: forming coefficients, and reading a film file.
+-- .. and the calls with more: forming coefficients, and reading a film file of either kind.
 module _ {number place : ℕ} where
   pub form-refused : (g : Gauge) (diagonals rights ups : List ℕ) (sources : List ℤ) {diagonals′ rights′ ups′ : List ℕ} {sources′ : List ℤ}
       → Forms g diagonals rights ups sources (refused number place) diagonals′ rights′ ups′ sources′
@@ -67,3 +76,15 @@ module _ {number place : ℕ} where
   load-refused bytes weights thicknesses L =
       let tests = loadCheck bytes weights thicknesses in
       (L .weights-are ∙ refused-keeps tests _ (L .answer-is) _ weights, L .thicknesses-are ∙ refused-keeps tests _ (L .answer-is) _ thicknesses)
+
+  pub coefficient-load-refused : (bytes weights diagonals rights ups : List ℕ) (sources : List ℤ) {weights′ diagonals′ rights′ ups′ : List ℕ} {sources′ : List ℤ}
+      → LoadsCoefficients bytes weights diagonals rights ups sources (refused number place) weights′ diagonals′ rights′ ups′ sources′
+      → (weights′ ≡ weights) × (diagonals′ ≡ diagonals) × (rights′ ≡ rights) × (ups′ ≡ ups) × (sources′ ≡ sources)
+  coefficient-load-refused bytes weights diagonals rights ups sources L =
+      let tests = coefficientLoadCheck bytes weights diagonals rights ups sources in (
+        L .weights-are ∙ refused-keeps tests _ (L .answer-is) _ weights,
+        L .diagonals-are ∙ refused-keeps tests _ (L .answer-is) _ diagonals,
+        L .rights-are ∙ refused-keeps tests _ (L .answer-is) _ rights,
+        L .ups-are ∙ refused-keeps tests _ (L .answer-is) _ ups,
+        L .sources-are ∙ refused-keeps tests _ (L .answer-is) _ sources,
+      )

@@ -15,11 +15,10 @@ use Rattle.model.specs.Limits.{ceilingLimit, diagonalLimit, linkLimit}
 use Rattle.model.specs.Integers.{positivePart, negativePart}
 use Rattle.model.specs.Film.{Film, sizeOf, rowOf, columnOf, rightAt, upAt, diagonalAt, sourceAt, linkIf, beside, across, neighbours, pullOf, slack, rule}
 use Rattle.model.specs.Accepted.{Sized, Limited, Accepted}
-use Rattle.model.specs.Coefficients.{formed}
-use Rattle.model.specs.Gauge.{Gauge}
 use Rattle.model.specs.Result.{Answer, answered, refused}
 use Rattle.model.specs.Run.{RunAnswer, done, stopped, over, countedIn}
-use Rattle.model.specs.File.{readFilm, Bytes}
+use Rattle.model.specs.File.{Bytes}
+use Rattle.model.specs.EitherFile.{readEither}
 use Rattle.model.specs.Report.{decimal, signed, line, filmWord, ceilingWord, doneWord, stoppedWord, overWord, refusedWord, peakWord, placeText, peakOf, cellLine, cellLines, peakLine, fieldText, answerLine, refusedLine, answerText, headLine, reportBudget, reportRun, filmReport, reportBy, reportOf}
 use Rattle.model.specs.ReportCall.{longestReport}
 use Rattle.model.specs.declared.Counts.{Counts}
@@ -27,8 +26,7 @@ use Rattle.model.proofs.Integers.{sub-source, positive-low, negative-lo
 use Rattle.model.proofs.Lists.{getD-low}
 use Rattle.model.proofs.Sides.{pull-append}
 use Rattle.model.proofs.Run.{run-budget, run-raises, run-good}
-use Rattle.model.proofs.File.{read-values}
-use Rattle.model.proofs.Forming.{formed-accepted}
+use Rattle.model.proofs.EitherFile.{either-accepted}
 use Rattle.model.proofs.Peak.{peak-below}
 use Rattle.model.proofs.Digits.{width, width-most, decimal-most, decimal-length, decimal-width, signed-length, two-words, three-words, five-words, placed-words, word-placed}
 
@@ -265,8 +263,8 @@ film-fits f A =
 
 -- no report is longer than the longest
 pub report-fits : (bytes : List ℕ) → Bytes bytes → length (reportOf bytes) ≤ longestReport
-report-fits bytes B = go (readFilm bytes) refl
+report-fits bytes B = go (readEither bytes) refl
   where
-    go : (r : Answer Gauge) → readFilm bytes ≡ r → length (reportBy r) ≤ longestReport
-    go (answered g) e = let v = read-values bytes g B e in film-fits (formed g) (formed-accepted g (v .0) (v .1))
+    go : (r : Answer Film) → readEither bytes ≡ r → length (reportBy r) ≤ longestReport
+    go (answered f) e = film-fits f (either-accepted bytes f B e)
     go (refused number place) e = omega (arith, refused-length number place)

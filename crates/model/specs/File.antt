@@ -13,7 +13,7 @@ use Rattle.model.specs.Gauge.{Gauge}
 use Rattle.model.specs.Coefficients.{formed}
 use Rattle.model.specs.Checks.{outside, shapeCheck, ceilingCheck, notDominant}
 use Rattle.model.specs.Result.{Answer, answerBy}
-use Rattle.model.specs.Bytes.{byteAt, wordAt, longAt, signedOf, word, long, unsignedOf}
+use Rattle.model.specs.Bytes.{byteAt, wordAt, longAt, word, long, signedOf, unsignedOf, listed}
 use Rattle.model.specs.Fields.{Field, body, fieldsEnd, walk, unexpectedAt, bytesOf}
 
 -- the number of cells, and of thicknesses with the boundary ring
@@ -120,8 +120,7 @@ readFilm bytes = answerBy (fileCheck bytes) (gaugeIn bytes)
 
 -- the file of a film's numbers: its fields with these bodies
 abbrev pub weightBytes : List ℕ → List ℕ
-weightBytes [] = []
-weightBytes (w ∷ ws) = word w ++ weightBytes ws
+weightBytes = listed word
 
 abbrev pub bodies : Gauge → List (List ℕ)
 bodies g =

@@ -91,7 +91,7 @@ loadCheck bytes weights thicknesses =
     failIf (not (eqb (length weights) 1024 && eqb (length thicknesses) 1156)) 10 0 orElse fileCheck bytes
 
 -- `new` in place of as many numbers at the start of `old`
-abbrev pub laidOver : List ℕ → List ℕ → List ℕ
+abbrev pub laidOver : {A : Type 0} → List A → List A → List A
 laidOver new old = new ++ drop (length new) old
 
 pub record Loads (bytes weights thicknesses : List ℕ) (answer : Answer LoadAnswer) (weights′ thicknesses′ : List ℕ) : Type 0 where

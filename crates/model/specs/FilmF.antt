@@ -11,9 +11,10 @@ use Rattle.model.specs.Coefficients.{formed}
 use Rattle.model.specs.Result.{Answer, answered, refused, Result}
 use Rattle.model.specs.Margin.{margin}
 use Rattle.model.specs.Estimate.{estimate}
-use Rattle.model.specs.Report.{reportOf}
+use Rattle.model.specs.Report.{refusedLine, reportOf}
 use Rattle.model.specs.Run.{RunAnswer, done, stopped, over, runCall}
 use Rattle.model.specs.File.{columnsOffset, readFilm, fileOf}
+use Rattle.model.specs.CoefficientFile.{readCoefficients, coefficientFileOf}
 use Rattle.model.specs.declared.Counts.{Counts}
 
 -- 1 row, 2 columns, weights 1 1, boundary rows all 1, middle row 3 2 1 1
@@ -111,3 +112,32 @@ pub record Computed : Type 0 where
   pub estimated : estimate steep zero-field 0 ≡ 1317 ∷ 2657 ∷ []
   pub proposals-on : runCall steep ample 0 true zero-field
       ≡ record { answer = answered (done (record { visits = 4; raises = 2; accepted = 2 })); lent = 1320 ∷ 2660 ∷ [] }
+
+-- Document 02, W1: its coefficient film's file, a line for each field
+unfoldable pub convertedF : List ℕ
+convertedF =
+    (0x01 ∷ 0x00 ∷ 0x02 ∷ 0x01 ∷ 0x02 ∷ [])
+    ++ (0x02 ∷ 0x00 ∷ 0x04 ∷ 0x00 ∷ 0x00 ∷ 0x00 ∷ 0x64 ∷ [])
+    ++ (0x03 ∷ 0x00 ∷ 0x04 ∷ 0x00 ∷ 0x01 ∷ 0x00 ∷ 0x01 ∷ [])
+    ++ (0x06 ∷ 0x00 ∷ 0x08 ∷ 0x00 ∷ 0x00 ∷ 0x00 ∷ 0xce ∷ 0x00 ∷ 0x00 ∷ 0x00 ∷ 0x33 ∷ [])
+    ++ (0x07 ∷ 0x00 ∷ 0x08 ∷ 0x00 ∷ 0x00 ∷ 0x00 ∷ 0x1b ∷ 0x00 ∷ 0x00 ∷ 0x00 ∷ 0x00 ∷ [])
+    ++ (0x08 ∷ 0x00 ∷ 0x08 ∷ 0x00 ∷ 0x00 ∷ 0x00 ∷ 0x00 ∷ 0x00 ∷ 0x00 ∷ 0x00 ∷ 0x00 ∷ [])
+    ++ (0x09 ∷ 0x00 ∷ 0x10 ∷ 0xff ∷ 0xff ∷ 0xff ∷ 0xff ∷ 0xff ∷ 0xff ∷ 0xff ∷ 0x38 ∷ 0xff ∷ 0xff ∷ 0xff ∷ 0xff ∷ 0xff ∷ 0xff ∷ 0xff ∷ 0x9c ∷ [])
+
+-- the converter writes it, it is read as film F and its report is film F's; each reader refuses the other kind at the tag behind the weights;
+-- and files that differ from it: 14 comes after a cut (a diagonal of 0, and a byte less), at the lowest cell (of the last list, and of the
+-- first), and before 9
+pub record CoefficientEdges : Type 0 where
+  pub writes : coefficientFileOf filmF ≡ convertedF
+  pub reads : readCoefficients convertedF ≡ answered filmF
+  pub report : reportOf convertedF ≡ reportF
+  pub not-gauged : readFilm convertedF ≡ refused 2 19
+  pub not-coefficients : readCoefficients bytesF ≡ refused 2 19
+  pub tag-alone : reportOf (take 20 convertedF) ≡ refusedLine 1 20
+  pub without-last : readCoefficients (take 70 (set convertedF 25 0)) ≡ refused 1 70
+  pub with-another : readCoefficients (convertedF ++ (0 ∷ [])) ≡ refused 2 71
+  pub diagonal-0 : readCoefficients (set convertedF 25 0) ≡ refused 14 0
+  pub lowest-cell : readCoefficients (set (set convertedF 29 0) 55 0x80) ≡ refused 14 0
+  pub source-least : readCoefficients (set (set (set (set (set (set (set (set convertedF 63 0x80) 64 0) 65 0) 66 0) 67 0) 68 0) 69 0) 70 0) ≡ refused 14 1
+  pub link-out : readCoefficients (set convertedF 40 1) ≡ refused 14 1
+  pub not-dominant : readCoefficients (set convertedF 25 0x1b) ≡ refused 9 0

@@ -20,6 +20,10 @@ pub mod Accepted
 pub mod Coefficients
 pub mod Reynolds
 pub mod Film
+-- document 02, W1: films that come as coefficients
+pub mod CoefficientFile
+pub mod CoefficientCalls
+pub mod EitherFile
 -- "A visit"
 pub mod Relaxation
 -- "A line offer"

@@ -5,12 +5,10 @@ use Prim.Native.Nat.{ℕ, zero, suc, _+_, _/_, _%_, _≤_, _<_}
 use lib.Dec.{ltb}
 use lib.IntN.{ℤ, pos, negsuc}
 use lib.ListN.{getD, replicate}
-use Rattle.model.specs.Gauge.{Gauge}
 use Rattle.model.specs.Film.{Film, sizeOf, rowOf, columnOf, slack}
-use Rattle.model.specs.Coefficients.{formed}
 use Rattle.model.specs.Result.{Answer, answered, refused, Result}
 use Rattle.model.specs.Run.{RunAnswer, done, stopped, over, run}
-use Rattle.model.specs.File.{readFilm}
+use Rattle.model.specs.EitherFile.{readEither}
 use Rattle.model.specs.declared.Counts.{Counts}
 
 -- a number in decimal, with at most as many digits as said
@@ -114,15 +112,15 @@ reportRun f = run f reportBudget 0 false (replicate (sizeOf f) 0)
 abbrev pub filmReport : Film → List ℕ
 filmReport f = headLine f ++ answerText f (reportRun f .answer) (reportRun f .lent)
 
-abbrev pub reportBy : Answer Gauge → List ℕ
-reportBy (answered g) = filmReport (formed g)
+abbrev pub reportBy : Answer Film → List ℕ
+reportBy (answered f) = filmReport f
 reportBy (refused number place) = refusedLine number place
 
--- the report of a file
+-- the report of a file, of either kind
 abbrev pub reportOf : List ℕ → List ℕ
-reportOf bytes = reportBy (readFilm bytes)
+reportOf bytes = reportBy (readEither bytes)
 
--- as many bytes of a file as decided its report (`report-prefix`): one more than the longest accepted file, which has
--- 25 + 2 × 1,024 + 34 × 34 = 3,229
+-- as many bytes of a file as decide its report (`report-prefix`): one more than the longest accepted file, which comes as coefficients
+-- and has 27 + 22 × 1,024 = 22,555
 abbrev pub enough : ℕ
-enough = 3230
+enough = 22556

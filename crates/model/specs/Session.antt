@@ -1,5 +1,5 @@
--- Document 01, demand 3, of the calls themselves: a film as it is lent to runs and proposals, after its file was read into lent buffers and its
--- coefficients formed into lent slices. All that is said of the two calls is what stands in the `ensures` of `read` and `form`.
+-- Document 01, demand 3, of the calls themselves: a film as it is lent to runs and proposals, after its file was read into lent buffers and, if it
+-- is a thickness film's, its coefficients were formed into lent slices. All that is said of these calls is what stands in their `ensures`.
 use mathlib.Core.Path.{_≡_}
 use mathlib.Core.List.{List}
 use Prim.Native.Nat.{ℕ, _*_}
@@ -8,9 +8,11 @@ use lib.ListN.{length, take}
 use Rattle.model.specs.Film.{Film, filmOf}
 use Rattle.model.specs.Result.{Answer, answered}
 use Rattle.model.specs.FileCalls.{used, film, Loads, Forms}
+use Rattle.model.specs.CoefficientCalls.{usedFilm, LoadsCoefficients}
 use Rattle.model.specs.declared.Head.{Head}
 
-pub record Session (bytes : List ℕ) (f : Film) : Type 0 where
+-- a thickness film, by `read` and `form`
+pub record GaugedSession (bytes : List ℕ) (f : Film) : Type 0 where
   -- the file was read: what the reader answered, and its buffers before and after
   pub head : Head
   pub wedge : ℤ
@@ -36,3 +38,25 @@ pub record Session (bytes : List ℕ) (f : Film) : Type 0 where
   pub forms : Forms (used head wedge weights′ thicknesses′) diagonals rights ups sources answer diagonals′ rights′ ups′ sources′
   -- these slices, with the weights, are lent to every run and proposal
   pub lent : f ≡ filmOf head (take (head .rows * head .columns) weights′) diagonals′ rights′ ups′ sources′
+
+-- a coefficient film, by `read_coefficients`: what it answered, and its buffers before and after, whose first N places are lent to every run
+-- and proposal
+pub record CoefficientSession (bytes : List ℕ) (f : Film) : Type 0 where
+  pub head : Head
+  pub weights : List ℕ
+  pub diagonals : List ℕ
+  pub rights : List ℕ
+  pub ups : List ℕ
+  pub sources : List ℤ
+  pub weights′ : List ℕ
+  pub diagonals′ : List ℕ
+  pub rights′ : List ℕ
+  pub ups′ : List ℕ
+  pub sources′ : List ℤ
+  pub loads : LoadsCoefficients bytes weights diagonals rights ups sources (answered head) weights′ diagonals′ rights′ ups′ sources′
+  pub lent : f ≡ usedFilm head weights′ diagonals′ rights′ ups′ sources′
+
+-- lists of runs may begin from either file
+pub data Session (bytes : List ℕ) (f : Film) : Type 0 where
+  gauged : GaugedSession bytes f → Session bytes f
+  coefficients : CoefficientSession bytes f → Session bytes f

@@ -93,6 +93,12 @@ pub enum Loaded {
     Refused(Refusal),
 }
 
+// The answer of the coefficient film file's reader: shape and ceiling; weights and coefficients are in the lent buffers.
+pub enum LoadedCoefficients {
+    Film(Head),
+    Refused(Refusal),
+}
+
 // The answer of the report: the length of the text, which is written at the start of a lent buffer.
 pub enum Reported {
     Written(usize),

@@ -17,7 +17,8 @@ use Rattle.model.specs.Result.{Answer, answered, refused}
 use Rattle.model.specs.FileCalls.{gaugeOf, headOf, LoadAnswer, film}
 use Rattle.model.proofs.Checks.{orElse-parts}
 use Rattle.model.proofs.Fields.{walk-passes, passes-end}
-use Rattle.model.proofs.File.{Shaped, gauge-shape}
+use Rattle.model.proofs.File.{gauge-shape}
+use Rattle.model.proofs.Opening.{Shaped}
 use Rattle.text.proofs.Writes.{sets-front}
 use Rattle.reading.specs.Reading.{LoadsBy}
 
@@ -25,7 +26,7 @@ use Rattle.reading.specs.Reading.{LoadsBy}
 
 -- a file whose fields have passed has a shape within its limits, and all its numbers
 pub record Whole (l : List ℕ) : Type 0 where
-  pub shape : Shaped (gaugeIn l)
+  pub shape : Shaped (gaugeIn l .rows) (gaugeIn l .columns)
   pub long : endOffset (cellsIn l) (ringIn l) ≤ length l
 
 pub fields-whole : (l : List ℕ) → fieldsCheck (gauged (cellsIn l) (ringIn l)) l ≡ pass → Whole l

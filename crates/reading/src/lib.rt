@@ -16,7 +16,7 @@ use model::Loaded;
 use model::Tested;
 
 // The shape and the ceiling that stand in a file.
-fn head_in(file: &[u8]) -> Head
+pub fn head_in(file: &[u8]) -> Head
     ensures { λ r. ⌜ r ≡ headOf (gaugeIn (now (file .entry))) ⌝ }
 {
     Head {
@@ -27,7 +27,7 @@ fn head_in(file: &[u8]) -> Head
 }
 
 // The weights that stand in a file, into the first n places of a table.
-fn weights_in(file: &[u8], n: usize, weights: &mut [u16])
+pub fn weights_in(file: &[u8], n: usize, weights: &mut [u16])
     requires { ⌜ (n ≤ length (now weights)) × (n ≤ 1024) × (weightsOffset + 2 * n ≤ length (now file)) ⌝ }
     ensures { λ r. ⌜ take n (now (weights .exit)) ≡ tabulate n (λ i. wordAt (now (file .entry)) (weightsOffset + 2 * i)) ⌝ }
 {

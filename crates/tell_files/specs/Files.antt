@@ -6,6 +6,7 @@ use Prim.Native.Nat.{ℕ}
 use lib.IntN.{ℤ}
 use Rattle.model.specs.Result.{Answer, answered, refused, refusalIn}
 use Rattle.model.specs.FileCalls.{LoadAnswer, film}
+use Rattle.model.specs.declared.Head.{Head}
 use Rattle.told.specs.Refused.{Told, valueIn}
 
 pub record ReportTold (answer : Answer ℕ) (length place number length′ place′ : ℕ) : Type 0 where
@@ -25,3 +26,12 @@ pub record LoadTold (answer : Answer LoadAnswer) (head : List ℕ) (wedge : ℤ)
   pub told : Told (refusalIn answer) place number place′
   pub head-is : head′ ≡ headNumbers answer head
   pub wedge-is : wedge′ ≡ wedgeNumber answer wedge
+
+-- of a coefficient film the head alone
+abbrev pub headIn : Answer Head → List ℕ → List ℕ
+headIn (answered h) old = h .rows ∷ h .columns ∷ h .ceiling ∷ []
+headIn (refused number place) old = old
+
+pub record HeadTold (answer : Answer Head) (head : List ℕ) (place number : ℕ) (head′ : List ℕ) (place′ : ℕ) : Type 0 where
+  pub told : Told (refusalIn answer) place number place′
+  pub head-is : head′ ≡ headIn answer head

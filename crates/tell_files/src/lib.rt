@@ -8,11 +8,13 @@
 // writes its place and nothing else; an answer leaves the place as it was.
 ghost use Rattle.model.specs.Result.{refusalIn};
 ghost use Rattle.model.specs.FileCalls.{loadAnswerOf, saveAnswerOf, formAnswerOf};
+ghost use Rattle.model.specs.CoefficientCalls.{coefficientsAnswerOf};
 ghost use Rattle.model.specs.ReportCall.{reportAnswerOf};
 ghost use Rattle.told.specs.Refused.{Told};
-ghost use Rattle.tell_files.specs.Files.{ReportTold, LoadTold};
+ghost use Rattle.tell_files.specs.Files.{ReportTold, LoadTold, HeadTold};
 use model::Formed;
 use model::Loaded;
+use model::LoadedCoefficients;
 use model::Reported;
 use model::Saved;
 
@@ -40,6 +42,19 @@ pub fn read(answer: Loaded, head: &mut [u32; 3], wedge: &mut i32, place: &mut us
             0
         }
         Loaded::Refused(r) => told::refused(r, place),
+    }
+}
+
+// A coefficient film that was read, whose weights and coefficients are in their own slices: its shape and ceiling.
+pub fn read_coefficients(answer: LoadedCoefficients, head: &mut [u32; 3], place: &mut usize) -> u32
+    ensures { λ r. ⌜ HeadTold (coefficientsAnswerOf answer) (now (head .entry)) (now (place .entry)) r (now (head .exit)) (now (place .exit)) ⌝ }
+{
+    match answer {
+        LoadedCoefficients::Film(h) => {
+            *head = [h.rows, h.columns, h.ceiling];
+            0
+        }
+        LoadedCoefficients::Refused(r) => told::refused(r, place),
     }
 }
 

@@ -16,13 +16,14 @@ use Rattle.model.specs.Report.{decimal, signed}
 use Rattle.text.specs.Writes.{Fits, Writes}
 
 -- two lists, one after the other
-pub sets-append : (l xs ys : List ℕ) (i place : ℕ) → place ≡ i + length xs → sets l i (xs ++ ys) ≡ sets (sets l i xs) place ys
-sets-append l [] ys i place e = ap (λ k. sets l k ys) (sym (e ∙ add-zero i))
-sets-append l (x ∷ xs) ys i place e = sets-append (set l i x) xs ys (suc i) place (omega arith)
+module _ {A : Type 0} where
+  pub sets-append : (l xs ys : List A) (i place : ℕ) → place ≡ i + length xs → sets l i (xs ++ ys) ≡ sets (sets l i xs) place ys
+  sets-append l [] ys i place e = ap (λ k. sets l k ys) (sym (e ∙ add-zero i))
+  sets-append l (x ∷ xs) ys i place e = sets-append (set l i x) xs ys (suc i) place (omega arith)
 
-pub sets-next : (l xs ys : List ℕ) (i place : ℕ) {m k : List ℕ} → m ≡ sets l i xs → k ≡ sets m place ys → place ≡ i + length xs
-    → k ≡ sets l i (xs ++ ys)
-sets-next l xs ys i place e f p = f ∙ ap (λ r. sets r place ys) e ∙ sym (sets-append l xs ys i place p)
+  pub sets-next : (l xs ys : List A) (i place : ℕ) {m k : List A} → m ≡ sets l i xs → k ≡ sets m place ys → place ≡ i + length xs
+      → k ≡ sets l i (xs ++ ys)
+  sets-next l xs ys i place e f p = f ∙ ap (λ (r : List A). sets r place ys) e ∙ sym (sets-append l xs ys i place p)
 
 -- the slice is as long as before
 pub writes-length : {text before after : List ℕ} {at next : ℕ} → Writes text before at after next → length after ≡ length before
@@ -46,30 +47,30 @@ writes-then {a} {b} {out} {middle} {after} {at} {between} {next} v w =
     }
 
 -- from the start on, and over the whole slice
-pub sets-front : (l xs : List ℕ) → length xs ≤ length l → sets l 0 xs ≡ xs ++ drop (length xs) l
+pub sets-front : {A : Type 0} (l xs : List A) → length xs ≤ length l → sets l 0 xs ≡ xs ++ drop (length xs) l
 sets-front l xs h = sets-eq xs l 0 (omega arith) ∙ simp zero-add
 
 pub sets-whole : (l xs : List ℕ) → length xs ≡ length l → sets l 0 xs ≡ xs
 sets-whole l xs e = sets-front l xs (omega arith) ∙ rw (e, drop-length l, append-nil)
 
--- A loop that writes a list's numbers as bytes: those of the first i are written.
-pub record Put (bytes : List ℕ → List ℕ) (source : List ℕ) (at : ℕ) (before : List ℕ) (i : ℕ) (after : List ℕ) : Type 0 where
+-- A loop that writes a list's numbers, as bytes or as they are: those of the first i are written.
+pub record Put {A B : Type 0} (bytes : List A → List B) (source : List A) (at : ℕ) (before : List B) (i : ℕ) (after : List B) : Type 0 where
   pub within : i ≤ length source
   pub done : after ≡ sets before at (bytes (take i source))
   pub len : length after ≡ length before
 
-module _ {bytes : List ℕ → List ℕ} {source : List ℕ} {at : ℕ} {before : List ℕ} where
+module _ {A B : Type 0} {bytes : List A → List B} {source : List A} {at : ℕ} {before : List B} where
   pub put-none : bytes [] ≡ [] → Put bytes source at before 0 before
   put-none e = record { within = omega arith; done = rw e; len = refl }
 
   -- one number more: its bytes go to the place after those written
-  pub put-more : {i place : ℕ} {after next : List ℕ} → i < length source
-      → bytes (take i source ++ getD source i 0 ∷ []) ≡ bytes (take i source) ++ bytes (getD source i 0 ∷ [])
+  pub put-more : (d : A) {i place : ℕ} {after next : List B} → i < length source
+      → bytes (take i source ++ getD source i d ∷ []) ≡ bytes (take i source) ++ bytes (getD source i d ∷ [])
       → place ≡ at + length (bytes (take i source)) → Put bytes source at before i after
-      → next ≡ sets after place (bytes (getD source i 0 ∷ [])) → Put bytes source at before (i + 1) next
-  put-more {i} {place} {after} {next} h b e p n =
-      let new = bytes (getD source i 0 ∷ []) in
-      let more : take (i + 1) source ≡ take i source ++ getD source i 0 ∷ [] = rw add-one (take-suc source i 0 h) in
+      → next ≡ sets after place (bytes (getD source i d ∷ [])) → Put bytes source at before (i + 1) next
+  put-more d {i} {place} {after} {next} h b e p n =
+      let new = bytes (getD source i d ∷ []) in
+      let more : take (i + 1) source ≡ take i source ++ getD source i d ∷ [] = rw add-one (take-suc source i d h) in
       record {
         within = omega arith;
         done = sets-next before (bytes (take i source)) new at place (p .done) n e ∙ ap (sets before at) (sym b ∙ ap bytes (sym more));
@@ -77,10 +78,10 @@ module _ {bytes : List ℕ → List ℕ} {source : List ℕ} {at : ℕ} {before 
       }
 
   -- all of them
-  pub put-all : {i : ℕ} {after : List ℕ} → length source ≤ i → Put bytes source at before i after → after ≡ sets before at (bytes source)
+  pub put-all : {i : ℕ} {after : List B} → length source ≤ i → Put bytes source at before i after → after ≡ sets before at (bytes source)
   put-all {i} {after} h p =
       let e : i ≡ length source = omega (arith, p .within) in
-      p .done ∙ ap (λ l. sets before at (bytes l)) (ap (λ k. take k source) e ∙ take-length source)
+      p .done ∙ ap (λ (l : List A). sets before at (bytes l)) (ap (λ k. take k source) e ∙ take-length source)
 
 -- a signed number's text, below 0 and not
 pub signed-below : (z : ℤ) → ltZ z (pos 0) ≡ true → signed z ≡ (45 ∷ []) ++ decimal (negativePart z)

@@ -14,7 +14,7 @@ use model::Tested;
 
 // Refusal 4, of the two bytes at `at`.
 pub fn shape_values(file: &[u8], at: usize) -> Tested
-    requires { ⌜ at ≤ 1000000 ⌝ }
+    requires { ⌜ at ≤ 6000000 ⌝ }
     ensures { λ r. ⌜ checkOf r ≡ shapeCheck (byteAt (now (file .entry)) at) at (byteAt (now (file .entry)) (at + 1)) (at + 1) ⌝ }
 {
     let rows = words::numbers::byte_at(file, at) as u32;
@@ -24,7 +24,7 @@ pub fn shape_values(file: &[u8], at: usize) -> Tested
 
 // Refusal 5, of the number at `at`.
 pub fn ceiling_values(file: &[u8], at: usize) -> Tested
-    requires { ⌜ at ≤ 1000000 ⌝ }
+    requires { ⌜ at ≤ 6000000 ⌝ }
     ensures { λ r. ⌜ checkOf r ≡ ceilingCheck (longAt (now (file .entry)) at) at ⌝ }
 {
     refusals::ceiling_test(words::numbers::long_at(file, at), at)
@@ -32,7 +32,7 @@ pub fn ceiling_values(file: &[u8], at: usize) -> Tested
 
 // Refusal 6, at the lowest of n weights from `at` on.
 pub fn weight_values(file: &[u8], at: usize, n: usize) -> Tested
-    requires { ⌜ (at + 2 * n ≤ length (now file)) × (at ≤ 1000000) × (n ≤ 65025) ⌝ }
+    requires { ⌜ (at + 2 * n ≤ length (now file)) × (at ≤ 6000000) × (n ≤ 65025) ⌝ }
     ensures { λ r. ⌜ checkOf r ≡ weightsFrom (λ i. wordAt (now (file .entry)) (at + 2 * i)) n at ⌝ }
 {
     let mut i = 0;
@@ -51,7 +51,7 @@ pub fn weight_values(file: &[u8], at: usize, n: usize) -> Tested
 
 // Refusal 7, at the lowest of t thicknesses from `at` on.
 pub fn thickness_values(file: &[u8], at: usize, t: usize) -> Tested
-    requires { ⌜ (at + t ≤ length (now file)) × (at + t ≤ 1000000) ⌝ }
+    requires { ⌜ (at + t ≤ length (now file)) × (at + t ≤ 6000000) ⌝ }
     ensures { λ r. ⌜ checkOf r ≡ thicknessesFrom (λ j. byteAt (now (file .entry)) (at + j)) t at ⌝ }
 {
     let end = at + t;
@@ -60,7 +60,7 @@ pub fn thickness_values(file: &[u8], at: usize, t: usize) -> Tested
 
 // Refusal 8, of the number at `at`.
 pub fn wedge_values(file: &[u8], at: usize) -> Tested
-    requires { ⌜ at ≤ 1000000 ⌝ }
+    requires { ⌜ at ≤ 6000000 ⌝ }
     ensures { λ r. ⌜ checkOf r ≡ wedgeCheck (signedOf (longAt (now (file .entry)) at)) at ⌝ }
 {
     let wedge = words::numbers::signed(words::numbers::long_at(file, at));

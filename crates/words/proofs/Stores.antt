@@ -1,17 +1,19 @@
--- The bytes of weights, one after another.
-use mathlib.Core.Path.{_≡_, refl, ap}
-use mathlib.Core.List.{List, [], _∷_, _++_}
+-- The bytes of numbers, one after another, of every width.
+use mathlib.Core.Path.{_≡_, refl, sym, ap, _∙_}
+use mathlib.Core.List.{List, [], _∷_, _++_, append-assoc}
 use Prim.Native.Nat.{ℕ, _+_, _*_, _≤_}
 use native.Mathlib.Omega.{arith}
 use lib.ListN.{length, take}
 use lib.Seq.{length-take-le}
-use Rattle.model.specs.Bytes.{word}
-use Rattle.model.specs.File.{weightBytes}
-use Rattle.model.proofs.File.{weights-length}
+use Rattle.model.specs.Bytes.{listed}
+use Rattle.model.proofs.Codes.{Code, listed-length}
 
-pub weights-append : (xs ys : List ℕ) → weightBytes (xs ++ ys) ≡ weightBytes xs ++ weightBytes ys
-weights-append [] ys = refl
-weights-append (x ∷ xs) ys = ap (λ l. word x ++ l) (weights-append xs ys)
+pub listed-append : {A : Type 0} (write : A → List ℕ) (xs ys : List A) → listed write (xs ++ ys) ≡ listed write xs ++ listed write ys
+listed-append write [] ys = refl
+listed-append write (x ∷ xs) ys =
+    ap (λ l. write x ++ l) (listed-append write xs ys) ∙ sym (append-assoc (write x) (listed write xs) (listed write ys))
 
-pub weights-front : (at i : ℕ) (ws : List ℕ) → i ≤ length ws → at + 2 * i ≡ at + length (weightBytes (take i ws))
-weights-front at i ws h = omega (arith, weights-length (take i ws), length-take-le i ws h)
+-- number i goes to the place after those before it
+pub listed-front : {A : Type 0} {w : ℕ} {write : A → List ℕ} {read : List ℕ → ℕ → A} {Fits : A → Type 0} → Code w write read Fits
+    → (at i : ℕ) (xs : List A) → i ≤ length xs → at + w * i ≡ at + length (listed write (take i xs))
+listed-front {w = w} c at i xs h = omega (arith, listed-length c (take i xs), ap (λ n. w * n) (length-take-le i xs h))

@@ -23,14 +23,14 @@ fn word_of(high: u8, low: u8) -> u16
 }
 
 pub fn word_at(file: &[u8], at: usize) -> u16
-    requires { ⌜ at ≤ 2000000 ⌝ }
+    requires { ⌜ at ≤ 7000000 ⌝ }
     ensures { λ r. ⌜ r ≡ wordAt (now (file .entry)) at ⌝ }
 {
     word_of(byte_at(file, at), byte_at(file, at + 1))
 }
 
 pub fn long_at(file: &[u8], at: usize) -> u32
-    requires { ⌜ at ≤ 1000000 ⌝ }
+    requires { ⌜ at ≤ 6000000 ⌝ }
     ensures { λ r. ⌜ r ≡ longAt (now (file .entry)) at ⌝ }
 {
     (word_at(file, at) as u32) * 65536 + (word_at(file, at + 2) as u32)

@@ -12,7 +12,7 @@ use Rattle.model.specs.Bytes.{long, unsignedOf}
 use Rattle.model.specs.Fields.{field, bytesOf}
 use Rattle.model.specs.File.{cells, ringed, endOffset, weightBytes, gauged, bodies, fileOf}
 use Rattle.text.proofs.Writes.{sets-next, sets-whole}
-use Rattle.model.proofs.File.{weights-length}
+use Rattle.model.proofs.Codes.{word-code, listed-length}
 use Rattle.writing.specs.Writable.{fileLength, Writable}
 
 pub length-known : (rows columns : ℕ) → rows ≤ sideLimit → columns ≤ sideLimit
@@ -41,7 +41,7 @@ module _ (g : Gauge) (out : List ℕ) (R : Writable g out) where
       let f3 = field 3 (2 * n) (weightBytes (g .weights)) in
       let f4 = field 4 t (g .thicknesses) in
       let f5 = field 5 4 (long (unsignedOf (g .wedge))) in
-      let w = weights-length (g .weights) in
+      let w = listed-length word-code (g .weights) in
       let k3 : 15 + 2 * n ≡ length (f1 ++ f2 ++ f3) = omega (arith, length-append (f1 ++ f2) f3) in
       let k4 : 15 + 2 * n + 3 + t ≡ length (f1 ++ f2 ++ f3 ++ f4) = omega (arith, length-append (f1 ++ f2 ++ f3) f4) in
       let k5 : length (f1 ++ f2 ++ f3 ++ f4 ++ f5) ≡ length out =

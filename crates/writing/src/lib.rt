@@ -16,7 +16,7 @@ ghost use Rattle.writing.specs.Writable.{fileLength, Writable};
 use model::Head;
 
 // The field of the shape, at the start of a file.
-fn put_shape(out: &mut [u8], rows: u32, columns: u32)
+pub fn put_shape(out: &mut [u8], rows: u32, columns: u32)
     requires { ⌜ (5 ≤ length (now out)) × (rows ≤ 255) × (columns ≤ 255) ⌝ }
     ensures { λ r. ⌜ now (out .exit) ≡ sets (now (out .entry)) 0 (field 1 2 (rows ∷ columns ∷ [])) ⌝ }
 {
@@ -26,7 +26,7 @@ fn put_shape(out: &mut [u8], rows: u32, columns: u32)
 }
 
 // The field of one number of four bytes.
-fn put_number(out: &mut [u8], at: usize, tag: u8, n: u32)
+pub fn put_number(out: &mut [u8], at: usize, tag: u8, n: u32)
     requires { ⌜ at + 7 ≤ length (now out) ⌝ }
     ensures { λ r. ⌜ now (out .exit) ≡ sets (now (out .entry)) at (field tag 4 (long n)) ⌝ }
 {
@@ -35,7 +35,7 @@ fn put_number(out: &mut [u8], at: usize, tag: u8, n: u32)
 }
 
 // The field of the weights.
-fn put_weights(out: &mut [u8], at: usize, weights: &[u16])
+pub fn put_weights(out: &mut [u8], at: usize, weights: &[u16])
     requires { ⌜ (at + 3 + 2 * length (now weights) ≤ length (now out)) × (length (now weights) ≤ 1024) ⌝ }
     ensures { λ r. ⌜ now (out .exit) ≡ sets (now (out .entry)) at (field 3 (2 * length (now (weights .entry))) (weightBytes (now (weights .entry)))) ⌝ }
 {

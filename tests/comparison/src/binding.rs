@@ -5,7 +5,8 @@ use crate::lent::Differences;
 use crate::numbers::{head, Problem, Sides};
 use crate::random::Random;
 use crate::trial::{Compared, Trial};
-use film::{Counts, Field, Head, Order, Outcome, Proposed, Relaxed};
+use film::{AnyFilm, Counts, Field, Head, Order, Outcome, Proposed, Relaxed};
+use film_oracle::coefficient_film::{self, convert, CoefficientFilm};
 use film_oracle::film::Film;
 use film_oracle::run::Answer;
 use film_oracle::{calls, Refusal, Whole};
@@ -13,23 +14,32 @@ use film_oracle::{calls, Refusal, Whole};
 /// A result as the package tells it.
 type Told<T> = Result<T, film::Refusal>;
 
-/// Reads a file, accepted or not, and writes it again.
+/// Reads a file, accepted or not, as a film of each kind and of either, and writes it again.
 pub fn compare_file(trial: &mut Trial, file: &[u8]) -> Compared {
     let mut differences = Differences::default();
-    let wanted = film_oracle::film::read(file);
-    let told = film::Film::read(file);
-    let accepted = told.is_ok();
-    if let Ok(film) = &told {
-        differences.same("written again", Ok(file.to_vec()), film.write());
-    }
-    differences.same(
-        "Film::read",
-        wanted.map(|film| numbers(&film)).map_err(refusal),
-        told.map(|film| read_numbers(&film)),
-    );
-    trial.tally.add("package", "read");
-    if accepted {
+    let gauged = film::Film::read(file);
+    let coefficients = film::CoefficientFilm::read(file);
+    let either = AnyFilm::read(file);
+    let written = [
+        gauged.as_ref().ok().map(|film| film.write()),
+        coefficients.as_ref().ok().map(|film| film.write()),
+        either.as_ref().ok().map(|film| film.write()),
+    ];
+    for written in written.into_iter().flatten() {
+        differences.same("written again", Ok(file.to_vec()), written);
         trial.tally.add("package", "write");
+    }
+    let wanted = film_oracle::film::read(file).map(|film| numbers(&film));
+    let told = gauged.map(|film| read_numbers(&film));
+    differences.same("Film::read", wanted.map_err(refusal), told);
+    let wanted = coefficient_film::read(file).map(|film| lists(&film));
+    let told = coefficients.map(|film| read_lists(&film));
+    differences.same("CoefficientFilm::read", wanted.map_err(refusal), told);
+    let wanted = film_oracle::report::read(file).map(|film| lists(&film));
+    let told = either.map(|film| read_lists(film.as_coefficients()));
+    differences.same("AnyFilm::read", wanted.map_err(refusal), told);
+    for _ in 0..3 {
+        trial.tally.add("package", "read");
     }
     trial.ended(differences)
 }
@@ -64,13 +74,66 @@ fn read_numbers(film: &film::Film) -> Numbers {
     (head, weights, thicknesses, film.wedge())
 }
 
-/// Every call of the package on an accepted film, with one field for all.
+/// Head, weights, diagonals, rights, ups and sources.
+type Lists = (Head, Vec<u16>, [Vec<u32>; 3], Vec<i64>);
+
+fn lists(film: &CoefficientFilm) -> Lists {
+    let problem = Problem::from(film);
+    let unsigned = [problem.diagonals, problem.rights, problem.ups];
+    (problem.head, problem.weights, unsigned, problem.sources)
+}
+
+fn read_lists(film: &film::CoefficientFilm) -> Lists {
+    let head = Head {
+        rows: film.rows(),
+        columns: film.columns(),
+        ceiling: film.ceiling(),
+    };
+    let unsigned = [film.diagonals(), film.rights(), film.ups()].map(|list| list.to_vec());
+    (
+        head,
+        film.weights().to_vec(),
+        unsigned,
+        film.sources().to_vec(),
+    )
+}
+
+/// Every call of the package on an accepted gauged film.
 pub fn compare(random: &mut Random, trial: &mut Trial, film: &Film) -> Compared {
     let file = trial.file.0.clone();
     compare_file(trial, &file)?;
+    let package = film::Film::read(&file).expect("compared just now");
+    let converted = convert(film);
+    let mut differences = Differences::default();
+    let file = coefficient_film::write(&converted);
+    differences.same("convert()", Ok(file), package.convert());
+    trial.tally.add("package", "convert");
+    trial.ended(differences)?;
+    compare_calls(random, trial, package, &converted)
+}
+
+/// Every call of the package on an accepted coefficient film.
+pub fn compare_coefficients(
+    random: &mut Random,
+    trial: &mut Trial,
+    film: &CoefficientFilm,
+) -> Compared {
+    let file = trial.file.0.clone();
+    compare_file(trial, &file)?;
+    let package = film::CoefficientFilm::read(&file).expect("compared just now");
+    compare_calls(random, trial, package, film)
+}
+
+/// The calls on a field, with one field for all.
+fn compare_calls(
+    random: &mut Random,
+    trial: &mut Trial,
+    package: impl Calls,
+    film: &CoefficientFilm,
+) -> Compared {
     let sides = Sides::new(Problem::from(film));
     let mut pair = Pair {
-        package: film::Film::read(&file).expect("compared just now"),
+        package,
         field: fields::start(random, &sides, None),
         sides,
         differences: Differences::default(),
@@ -85,24 +148,76 @@ pub fn compare(random: &mut Random, trial: &mut Trial, film: &Film) -> Compared 
     trial.ended(pair.differences)
 }
 
+/// What the package's films of both kinds have: the calls of each are tried.
+trait Calls {
+    fn cells(&self) -> usize;
+    fn lists(&self) -> ([&[u32]; 3], &[i64]);
+    fn margin(&self) -> Told<u32>;
+    fn slack(&self, field: &Field, cell: usize) -> Told<i64>;
+    fn relax(&self, field: &mut Field, cell: usize) -> Told<Relaxed>;
+    fn estimate(&self, field: &Field, line: u32) -> Told<Vec<u32>>;
+    fn propose(&self, field: &mut Field, line: u32, proposal: &[u32]) -> Told<Proposed>;
+    fn run(&self, field: &mut Field, budget: u32, order: Order, proposals: bool) -> Told<Outcome>;
+}
+
+macro_rules! calls_of {
+    ($film:ty) => {
+        impl Calls for $film {
+            fn cells(&self) -> usize {
+                self.cells()
+            }
+            fn lists(&self) -> ([&[u32]; 3], &[i64]) {
+                let unsigned = [self.diagonals(), self.rights(), self.ups()];
+                (unsigned, self.sources())
+            }
+            fn margin(&self) -> Told<u32> {
+                self.margin()
+            }
+            fn slack(&self, field: &Field, cell: usize) -> Told<i64> {
+                self.slack(field, cell)
+            }
+            fn relax(&self, field: &mut Field, cell: usize) -> Told<Relaxed> {
+                self.relax(field, cell)
+            }
+            fn estimate(&self, field: &Field, line: u32) -> Told<Vec<u32>> {
+                self.estimate(field, line)
+            }
+            fn propose(&self, field: &mut Field, line: u32, proposal: &[u32]) -> Told<Proposed> {
+                self.propose(field, line, proposal)
+            }
+            fn run(
+                &self,
+                field: &mut Field,
+                budget: u32,
+                order: Order,
+                proposals: bool,
+            ) -> Told<Outcome> {
+                self.run(field, budget, order, proposals)
+            }
+        }
+    };
+}
+
+calls_of!(film::Film);
+calls_of!(film::CoefficientFilm);
+
 /// A film on both sides.
-struct Pair {
-    package: film::Film,
+struct Pair<P> {
+    package: P,
     sides: Sides,
     /// The oracle's field.
     field: Vec<u32>,
     differences: Differences,
 }
 
-impl Pair {
+impl<P: Calls> Pair<P> {
     fn coefficients(&mut self) {
         let plain = &self.sides.plain;
         let package = &self.package;
         let differences = &mut self.differences;
-        differences.same("diagonals()", &plain.diagonals[..], package.diagonals());
-        differences.same("rights()", &plain.rights[..], package.rights());
-        differences.same("ups()", &plain.ups[..], package.ups());
-        differences.same("sources()", &plain.sources[..], package.sources());
+        let unsigned = [&plain.diagonals[..], &plain.rights, &plain.ups];
+        let lists = (unsigned, &plain.sources[..]);
+        differences.same("coefficients", lists, package.lists());
         differences.same("cells()", plain.cells(), package.cells());
         let margin = calls::margin(self.sides.oracle()).map(|margin| margin as u32);
         differences.same("margin()", margin.map_err(refusal), package.margin());

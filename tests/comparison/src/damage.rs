@@ -5,6 +5,7 @@ use crate::films::{HIGHEST_CEILING, HIGHEST_WEDGE};
 use crate::numbers::{Gauge, Problem};
 use crate::problems::{HIGHEST_DIAGONAL, HIGHEST_LINK, HIGHEST_SOURCE};
 use crate::random::Random;
+use film_oracle::coefficient_film;
 use film_oracle::film::{thickness_count, write, Film};
 
 /// A file from an accepted film's, with faults of every class of byte.
@@ -20,13 +21,35 @@ pub fn file(random: &mut Random, film: &Film) -> Vec<u8> {
     }
     let mut bytes = write(&film);
     for _ in 0..times {
-        damage_bytes(random, &film, &mut bytes);
+        damage_bytes(random, &headers(&film), &mut bytes);
+    }
+    bytes
+}
+
+/// A coefficient file from an accepted film's, with faults of every class of byte.
+pub fn coefficient_file(random: &mut Random, problem: &Problem) -> Vec<u8> {
+    if random.chance(2) {
+        return stray_bytes(random);
+    }
+    let mut problem = problem.clone();
+    let mut times = 1 + random.below(2);
+    if random.chance(50) {
+        for _ in 0..1 + random.below(2) {
+            damage_number(random, &mut problem);
+        }
+        times -= 1;
+    }
+    let mut bytes = coefficient_film::write(&problem.film());
+    let mut headers = vec![0, 5, 12];
+    headers.extend(coefficient_film::headers(problem.cells()));
+    for _ in 0..times {
+        damage_bytes(random, &headers, &mut bytes);
     }
     bytes
 }
 
 fn stray_bytes(random: &mut Random) -> Vec<u8> {
-    let length = random.spread(4_000);
+    let length = random.spread(24_000);
     (0..length).map(|_| random.byte()).collect()
 }
 
@@ -49,15 +72,15 @@ fn headers(film: &Film) -> [usize; 5] {
     [0, 5, 12, weights, wedge]
 }
 
-fn damage_bytes(random: &mut Random, film: &Film, bytes: &mut Vec<u8>) {
-    let header = random.pick(&headers(film));
+fn damage_bytes(random: &mut Random, headers: &[usize], bytes: &mut Vec<u8>) {
+    let header = random.pick(headers);
     let edge = (header as i64 + random.within(-2, 5)).max(0) as usize;
     let anywhere = random.below(bytes.len() + 1);
     let at = if random.chance(50) { edge } else { anywhere };
-    match random.below(9) {
+    match random.below(12) {
         0 | 1 => bytes.truncate(at),
-        2 => bytes.extend((0..1 + random.below(3)).map(|_| random.byte())),
-        3 => set(bytes, header, random.within(0, 12) as u8),
+        2 => lengthen(random, bytes),
+        3 => set(bytes, header, random.within(0, 14) as u8),
         4 => set(bytes, header + 1 + random.below(2), random.byte()),
         5 => {
             let side = random.pick(&[0, 1, 2, 32, 33, 34, 255]);
@@ -65,7 +88,47 @@ fn damage_bytes(random: &mut Random, film: &Film, bytes: &mut Vec<u8>) {
         }
         6 if at < bytes.len() => drop(bytes.remove(at)),
         7 if at < bytes.len() => bytes.insert(at, random.byte()),
+        8 => exchange_tags(header, random.pick(headers), bytes),
+        9 => exchange_fields(random, headers, bytes),
+        10 => other_length(random, header, bytes),
         _ => set(bytes, at, random.byte()),
+    }
+}
+
+/// A few bytes more, or so many that the file is longer than any film's.
+fn lengthen(random: &mut Random, bytes: &mut Vec<u8>) {
+    let count = if random.chance(3) {
+        23_000
+    } else {
+        1 + random.below(3)
+    };
+    bytes.extend((0..count).map(|_| random.byte()));
+}
+
+/// The tags of two fields in each other's place.
+fn exchange_tags(one: usize, other: usize, bytes: &mut [u8]) {
+    if one.max(other) < bytes.len() {
+        bytes.swap(one, other);
+    }
+}
+
+/// A field and the one after it in each other's place.
+fn exchange_fields(random: &mut Random, headers: &[usize], bytes: &mut [u8]) {
+    let first = random.below(headers.len() - 1);
+    let end = headers.get(first + 2).copied().unwrap_or(bytes.len());
+    if headers[first + 1] <= end && end <= bytes.len() {
+        bytes[headers[first]..end].rotate_left(headers[first + 1] - headers[first]);
+    }
+}
+
+/// A length that is near the right one, or that of other numbers: a half, or twice as much.
+fn other_length(random: &mut Random, header: usize, bytes: &mut [u8]) {
+    if let Some(place) = bytes.get_mut(header + 1..header + 3) {
+        let length = u16::from_be_bytes([place[0], place[1]]);
+        let near = [length.wrapping_add(1), length.wrapping_sub(1)];
+        let far = [length / 2, length.wrapping_mul(2)];
+        let other = random.pick(&[near, far].concat());
+        place.copy_from_slice(&other.to_be_bytes());
     }
 }
 
@@ -168,18 +231,25 @@ fn damage_problem(random: &mut Random, problem: &mut Problem) {
         0 => problem.head.rows = side(random, problem.head.rows),
         1 => problem.head.columns = side(random, problem.head.columns),
         2 => std::mem::swap(&mut problem.head.rows, &mut problem.head.columns),
-        3 => problem.head.ceiling = bad_ceiling(random),
-        4 => resize(random, &mut problem.weights, 1),
-        5 => resize(random, &mut problem.diagonals, 1),
-        6 => resize(random, &mut problem.rights, 0),
-        7 => resize(random, &mut problem.ups, 0),
-        8 => resize(random, &mut problem.sources, 0),
-        9 => put(random, &mut problem.weights, |_, _| 0),
-        10 => put(random, &mut problem.weights, other_weight),
-        11 => put(random, &mut problem.diagonals, other_diagonal),
-        12 | 13 => put(random, &mut problem.rights, other_link),
-        14 | 15 => put(random, &mut problem.ups, other_link),
-        16 => end_link(random, problem),
+        3 => resize(random, &mut problem.weights, 1),
+        4 => resize(random, &mut problem.diagonals, 1),
+        5 => resize(random, &mut problem.rights, 0),
+        6 => resize(random, &mut problem.ups, 0),
+        7 => resize(random, &mut problem.sources, 0),
+        _ => damage_number(random, problem),
+    }
+}
+
+/// Damages the ceiling or a number of a list, and no length.
+fn damage_number(random: &mut Random, problem: &mut Problem) {
+    match random.below(10) {
+        0 => problem.head.ceiling = bad_ceiling(random),
+        1 => put(random, &mut problem.weights, |_, _| 0),
+        2 => put(random, &mut problem.weights, other_weight),
+        3 => put(random, &mut problem.diagonals, other_diagonal),
+        4 | 5 => put(random, &mut problem.rights, other_link),
+        6 | 7 => put(random, &mut problem.ups, other_link),
+        8 => end_link(random, problem),
         _ => put(random, &mut problem.sources, other_source),
     }
 }

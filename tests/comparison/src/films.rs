@@ -1,6 +1,7 @@
 //! Random films that are accepted.
 
 use crate::random::Random;
+use film_oracle::coefficient_film::{convert, CoefficientFilm};
 use film_oracle::coefficients::form;
 use film_oracle::film::{thickness_count, Film};
 use film_oracle::relax::first_not_dominant;
@@ -159,30 +160,31 @@ fn ceiling(random: &mut Random, film: &Film) -> u32 {
     if random.chance(40) {
         return any_ceiling(random);
     }
-    let (_, field) = tried(film, soon(film));
+    let (_, field) = tried(&convert(film));
     let peak = field.into_iter().max().expect("a film has cells");
     let near = [peak.saturating_sub(1), peak, peak + 1, 2 * peak];
     random.pick(&near).clamp(1, HIGHEST_CEILING)
 }
 
-/// A budget that most films need not use up.
-pub fn soon(film: &Film) -> u32 {
-    2_000 + 200 * film.cells() as u32
-}
-
-/// A run from zero, forward and without proposals, as the report's.
-pub fn tried(film: &Film, budget: u32) -> (Answer, Vec<u32>) {
+/// A run from zero, forward and without proposals, as the report's, but with a budget that most films
+/// need not use up.
+fn tried(film: &CoefficientFilm) -> (Answer, Vec<u32>) {
     let mut field = vec![0; film.cells()];
     let outcome = run(
-        form(film).system(),
+        film.system(),
         film.ceiling,
         &film.weights,
         &mut field,
-        budget,
+        2_000 + 200 * film.cells() as u32,
         Ordering::Forward,
         false,
     );
     (outcome.answer, field)
+}
+
+/// Whether the film's report needs no long run.
+pub fn quick(film: &CoefficientFilm) -> bool {
+    tried(film).0 != Answer::Stopped
 }
 
 /// Other weights that hold the film too.

@@ -3,70 +3,99 @@
 use crate::binding;
 use crate::damage;
 use crate::fields::{self, Sweep};
-use crate::films::{self, soon, tried};
+use crate::films::{self, quick};
+use crate::lent::Differences;
 use crate::numbers::{Gauge, Problem};
 use crate::problems;
 use crate::random::Random;
 use crate::tally::Tally;
-use crate::trial::{Compared, File, Step, Trial, REPORT_ROOM};
+use crate::trial::{Compared, Disagreement, File, Step, Trial, REPORT_ROOM};
+use film_oracle::coefficient_film::{self, convert, COEFFICIENT_BUFFER};
 use film_oracle::film::{file_length, write, Film, THICKNESS_BUFFER, WEIGHT_BUFFER};
-use film_oracle::run::Answer;
+use film_oracle::report;
 
-/// Makes a film, accepted or damaged or of coefficients alone, and its calls.
+/// Makes a film of either kind, accepted or damaged, and its calls.
 pub fn compare(random: &mut Random, tally: &mut Tally) -> Compared {
-    if random.below(1_500) == 0 {
-        return slow_film(random, tally);
+    match random.below(3_000) {
+        0 | 1 => return slow_film(random, tally),
+        2..=4 => return long_input(random, tally),
+        _ => {}
     }
     match random.below(100) {
-        0..=49 => accepted_film(random, tally),
-        50..=69 => damaged_film(random, tally),
-        _ => coefficients(random, tally),
+        0..=39 => accepted_film(random, tally),
+        40..=54 => damaged_film(random, tally),
+        55..=84 => coefficients(random, tally),
+        _ => damaged_coefficients(random, tally),
     }
 }
 
 fn accepted_film(random: &mut Random, tally: &mut Tally) -> Compared {
     let film = films::accepted(random);
-    let file = write(&film);
-    let quick = tried(&film, soon(&film)).0 != Answer::Stopped;
-    let mut trial = Trial::new(file.clone(), tally);
-    read(&mut trial, file.clone())?;
+    let converted = convert(&film);
+    let files = [write(&film), coefficient_film::write(&converted)];
+    let mut trial = Trial::new(files[0].clone(), tally);
     gauged(&mut trial, Gauge::from(&film))?;
+    for file in &files {
+        read(&mut trial, file)?;
+    }
     if random.chance(30) {
         wrong_lengths(random, &mut trial, &film)?;
     }
-    numeric(random, &mut trial, Problem::from(&film), None)?;
+    lists_alike(random, &mut trial, &files)?;
+    numeric(random, &mut trial, Problem::from(&converted), None)?;
     binding::compare(random, &mut trial, &film)?;
-    if quick || random.chance(25) {
-        binding::compare_report(&mut trial, &file)?;
-        trial.step(Step::Report(File(file), REPORT_ROOM + random.below(20)))?;
+    if quick(&converted) {
+        reported(random, &mut trial, &files[0])?;
+        return reported(random, &mut trial, &files[1]);
     }
-    Ok(())
+    // A long run is made of one of the two alone, and not of every film.
+    match random.below(8) {
+        kind @ 0..=1 => reported(random, &mut trial, &files[kind]),
+        _ => Ok(()),
+    }
+}
+
+/// The report of a file, by the library and by the package.
+fn reported(random: &mut Random, trial: &mut Trial, file: &[u8]) -> Compared {
+    binding::compare_report(trial, file)?;
+    let room = REPORT_ROOM + random.below(20);
+    trial.step(Step::Report(File(file.to_vec()), room))
 }
 
 /// A film whose report uses its budget up, or nearly so.
 fn slow_film(random: &mut Random, tally: &mut Tally) -> Compared {
-    let Some(film) = films::slow(random) else {
-        return Ok(());
+    let file = match (random.below(3), films::slow(random)) {
+        (0, Some(film)) => write(&film),
+        (1, Some(film)) => coefficient_film::write(&convert(&film)),
+        _ => coefficient_film::write(&problems::climbing(random).film()),
     };
-    let file = write(&film);
     let mut trial = Trial::new(file.clone(), tally);
-    read(&mut trial, file.clone())?;
+    read(&mut trial, &file)?;
     trial.step(Step::Report(File(file), REPORT_ROOM))
+}
+
+/// A coefficient film of the largest shape, whole, cut by a byte or with bytes that follow it.
+fn long_input(random: &mut Random, tally: &mut Tally) -> Compared {
+    let film = problems::shaped(random, (32, 32)).film();
+    let mut file = coefficient_film::write(&film);
+    let whole = file.len();
+    let any = whole + random.below(20_000);
+    let length = random.pick(&[whole - 1, whole, whole + 1, any]);
+    file.resize(length, random.byte());
+    let mut trial = Trial::new(file.clone(), tally);
+    read(&mut trial, &file)?;
+    if length != whole || quick(&film) {
+        trial.step(Step::Report(File(file), REPORT_ROOM))?;
+    }
+    Ok(())
 }
 
 fn damaged_film(random: &mut Random, tally: &mut Tally) -> Compared {
     let film = films::accepted(random);
-    let file = damage::file(random, &film);
-    let mut trial = Trial::new(file, tally);
+    let mut trial = Trial::new(Vec::new(), tally);
     for _ in 0..4 {
         let file = damage::file(random, &film);
-        trial.file = File(file.clone());
-        read(&mut trial, file.clone())?;
-        binding::compare_file(&mut trial, &file)?;
-        if quick_report(&file) {
-            binding::compare_report(&mut trial, &file)?;
-            trial.step(Step::Report(File(file), REPORT_ROOM))?;
-        }
+        damaged_file(random, &mut trial, file)?;
     }
     for _ in 0..4 {
         gauged(&mut trial, damage::gauge(random, &film))?;
@@ -74,19 +103,40 @@ fn damaged_film(random: &mut Random, tally: &mut Tally) -> Compared {
     wrong_lengths(random, &mut trial, &film)
 }
 
-/// Whether the file's report needs no long run: damage may leave a file that is accepted.
-fn quick_report(file: &[u8]) -> bool {
-    match film_oracle::film::read(file) {
-        Ok(film) => tried(&film, soon(&film)).0 != Answer::Stopped,
-        Err(_) => true,
+fn damaged_coefficients(random: &mut Random, tally: &mut Tally) -> Compared {
+    let problem = problems::accepted(random);
+    let mut trial = Trial::new(Vec::new(), tally);
+    for _ in 0..4 {
+        let file = damage::coefficient_file(random, &problem);
+        damaged_file(random, &mut trial, file)?;
+    }
+    for _ in 0..4 {
+        meshed(&mut trial, damage::problem(random, &problem))?;
+    }
+    wrong_coefficient_lengths(random, &mut trial, &problem)
+}
+
+/// Reads a damaged file, which becomes the trial's, and reports on it.
+fn damaged_file(random: &mut Random, trial: &mut Trial, file: Vec<u8>) -> Compared {
+    trial.file = File(file.clone());
+    read(trial, &file)?;
+    binding::compare_file(trial, &file)?;
+    // Damage may leave a file that is accepted.
+    match report::read(&file) {
+        Ok(film) if !quick(&film) => Ok(()),
+        _ => reported(random, trial, &file),
     }
 }
 
-fn read(trial: &mut Trial, file: Vec<u8>) -> Compared {
-    trial.step(Step::Read(File(file), WEIGHT_BUFFER, THICKNESS_BUFFER))
+/// Both readers get the file: one of them at least refuses it.
+fn read(trial: &mut Trial, file: &[u8]) -> Compared {
+    let file = File(file.to_vec());
+    trial.step(Step::Read(file.clone(), WEIGHT_BUFFER, THICKNESS_BUFFER))?;
+    trial.step(Step::ReadCoefficients(file, [COEFFICIENT_BUFFER; 5]))
 }
 
-/// Writes the film, and forms its coefficients, in slices of the right length for its shape.
+/// Writes the film, forms its coefficients and converts it, in slices of the right length for its
+/// shape.
 fn gauged(trial: &mut Trial, gauge: Gauge) -> Compared {
     let (rows, columns) = (
         gauge.head.rows.min(99) as usize,
@@ -94,10 +144,21 @@ fn gauged(trial: &mut Trial, gauge: Gauge) -> Compared {
     );
     let length = file_length(rows, columns);
     trial.step(Step::Write(gauge.clone(), length))?;
-    trial.step(Step::Form(gauge, [rows * columns; 4]))
+    trial.step(Step::Form(gauge.clone(), [rows * columns; 4]))?;
+    let length = coefficient_film::file_length(rows, columns);
+    trial.step(Step::Convert(gauge, length))
 }
 
-/// Every call on a film's numbers, with lent slices of wrong lengths.
+/// Writes a film as coefficients, in a slice of the right length for its shape.
+fn meshed(trial: &mut Trial, problem: Problem) -> Compared {
+    let length = coefficient_film::file_length(
+        problem.head.rows.min(99) as usize,
+        problem.head.columns.min(99) as usize,
+    );
+    trial.step(Step::WriteCoefficients(problem, length))
+}
+
+/// Every call on a gauged film's numbers, with lent slices of wrong lengths.
 fn wrong_lengths(random: &mut Random, trial: &mut Trial, film: &Film) -> Compared {
     let gauge = if random.chance(70) {
         Gauge::from(film)
@@ -109,27 +170,109 @@ fn wrong_lengths(random: &mut Random, trial: &mut Trial, film: &Film) -> Compare
     lengths[which] = damage::length(random, film.cells());
     trial.step(Step::Form(gauge.clone(), lengths))?;
     let length = damage::length(random, file_length(film.rows, film.columns));
-    trial.step(Step::Write(gauge, length))?;
+    trial.step(Step::Write(gauge.clone(), length))?;
+    let length = coefficient_film::file_length(film.rows, film.columns);
+    let length = damage::length(random, length);
+    trial.step(Step::Convert(gauge, length))?;
     let file = trial.file.clone();
     let (weights, thicknesses) = if random.chance(50) {
         (damage::length(random, WEIGHT_BUFFER), THICKNESS_BUFFER)
     } else {
         (WEIGHT_BUFFER, damage::length(random, THICKNESS_BUFFER))
     };
-    trial.step(Step::Read(file.clone(), weights, thicknesses))?;
+    trial.step(Step::Read(file, weights, thicknesses))?;
+    wrong_room(random, trial)
+}
+
+/// Every call on a coefficient film's numbers, with lent slices of wrong lengths.
+fn wrong_coefficient_lengths(
+    random: &mut Random,
+    trial: &mut Trial,
+    problem: &Problem,
+) -> Compared {
+    let problem = if random.chance(70) {
+        problem.clone()
+    } else {
+        damage::problem(random, problem)
+    };
+    let length = damage::length(random, 27 + 22 * problem.weights.len());
+    trial.step(Step::WriteCoefficients(problem, length))?;
+    let mut lengths = [COEFFICIENT_BUFFER; 5];
+    let which = random.below(5);
+    lengths[which] = damage::length(random, COEFFICIENT_BUFFER);
+    let file = trial.file.clone();
+    trial.step(Step::ReadCoefficients(file, lengths))?;
+    wrong_room(random, trial)
+}
+
+/// A report in too small a slice.
+fn wrong_room(random: &mut Random, trial: &mut Trial) -> Compared {
     let room = random.pick(&[0, 1, 40, 4_096, REPORT_ROOM - 1]);
+    let file = trial.file.clone();
     trial.step(Step::Report(file, room))
 }
 
-/// A film that comes as coefficients alone. The trial's file is empty.
+/// A film that comes as coefficients.
 fn coefficients(random: &mut Random, tally: &mut Tally) -> Compared {
-    let mut trial = Trial::new(Vec::new(), tally);
-    if random.chance(40) {
-        let problem = problems::accepted(random);
-        return numeric(random, &mut trial, problem, None);
+    let (problem, known) = if random.chance(40) {
+        (problems::accepted(random), None)
+    } else {
+        let (problem, field) = problems::exact(random);
+        (problem, Some(field))
+    };
+    let film = problem.film();
+    let file = coefficient_film::write(&film);
+    let mut trial = Trial::new(file.clone(), tally);
+    meshed(&mut trial, problem.clone())?;
+    read(&mut trial, &file)?;
+    if random.chance(30) {
+        wrong_coefficient_lengths(random, &mut trial, &problem)?;
     }
-    let (problem, field) = problems::exact(random);
-    numeric(random, &mut trial, problem, Some(&field))
+    list(random, &mut trial, &file)?;
+    numeric(random, &mut trial, problem, known.as_deref())?;
+    binding::compare_coefficients(random, &mut trial, &film)?;
+    if quick(&film) {
+        reported(random, &mut trial, &file)?;
+    }
+    Ok(())
+}
+
+/// A call of a list, and the library's field after it.
+type Made = (Step, Vec<u32>);
+
+/// A list of runs and proposals, refused ones among them, on the film that each side reads from a
+/// file, from the zero field.
+fn list(
+    random: &mut Random,
+    trial: &mut Trial,
+    file: &[u8],
+) -> Result<Vec<Made>, Box<Disagreement>> {
+    trial.step(Step::Begin(File(file.to_vec())))?;
+    let mut made = Vec::new();
+    for _ in 0..2 + random.below(4) {
+        let step = match random.below(10) {
+            0 | 1 => refused_list_call(random, trial),
+            2..=5 => good_proposal(random, trial),
+            _ => good_run(random, trial),
+        };
+        trial.step(step.clone())?;
+        made.push((step, trial.library_field().to_vec()));
+    }
+    Ok(made)
+}
+
+/// The same list begun from a gauged film's file and from the converted one's: the library's field
+/// is the same after each call.
+fn lists_alike(random: &mut Random, trial: &mut Trial, files: &[Vec<u8>; 2]) -> Compared {
+    let made = list(random, trial, &files[0])?;
+    trial.step(Step::Begin(File(files[1].clone())))?;
+    for (step, field) in made {
+        trial.step(step)?;
+        let mut differences = Differences::default();
+        differences.same("converted field", &field[..], trial.library_field());
+        trial.ended(differences)?;
+    }
+    Ok(())
 }
 
 /// Calls on one film and one field, and refused ones among them.
@@ -149,7 +292,8 @@ fn numeric(
             trial.step(step)?;
         }
         for _ in 0..random.below(4) {
-            refused_call(random, trial)?;
+            let step = refused_call(random, trial);
+            trial.step(step)?;
         }
         damaged_calls(random, trial, &problem)?;
         let step = good_call(random, trial);
@@ -161,24 +305,33 @@ fn numeric(
 
 /// A call that is answered.
 fn good_call(random: &mut Random, trial: &Trial) -> Step {
-    let problem = &trial.sides().plain;
-    let any = random.below(problem.cells());
-    let short = fields::short_cell(random, trial.sides(), trial.field());
-    let cell = match short {
-        Some(short) if random.chance(70) => short,
-        _ => any,
-    };
-    let line = 1 + cell / problem.head.columns as usize;
+    let columns = trial.sides().plain.head.columns as usize;
+    let cell = good_cell(random, trial);
     match random.below(12) {
         0 | 1 => Step::Relax(cell),
         2 => Step::Slack(cell),
-        3 | 4 => Step::Estimate(line as u32, problem.head.columns as usize),
-        5..=8 => {
-            let proposal = fields::proposal(random, trial.sides(), trial.field(), line);
-            Step::Propose(line as u32, proposal)
-        }
+        3 | 4 => Step::Estimate(1 + (cell / columns) as u32, columns),
+        5..=8 => good_proposal(random, trial),
         _ => good_run(random, trial),
     }
+}
+
+/// Any cell, or one that can be raised.
+fn good_cell(random: &mut Random, trial: &Trial) -> usize {
+    let any = random.below(trial.sides().plain.cells());
+    let short = fields::short_cell(random, trial.sides(), trial.field());
+    match short {
+        Some(short) if random.chance(70) => short,
+        _ => any,
+    }
+}
+
+/// A proposal for a line of the grid, of its length.
+fn good_proposal(random: &mut Random, trial: &Trial) -> Step {
+    let columns = trial.sides().plain.head.columns as usize;
+    let line = 1 + good_cell(random, trial) / columns;
+    let proposal = fields::proposal(random, trial.sides(), trial.field(), line);
+    Step::Propose(line as u32, proposal)
 }
 
 /// A run with a small budget, or with one around N, or around the last visit of a run that ends by
@@ -211,34 +364,48 @@ fn good_run(random: &mut Random, trial: &Trial) -> Step {
 }
 
 /// A call with a bad line, cell, ordering or length.
-fn refused_call(random: &mut Random, trial: &mut Trial) -> Compared {
+fn refused_call(random: &mut Random, trial: &Trial) -> Step {
     let problem = &trial.sides().plain;
-    let (rows, columns) = (problem.head.rows, problem.head.columns as usize);
+    let cells = problem.cells();
+    let any = random.any_u32() as usize;
+    let cell = random.pick(&[cells, cells + 1, usize::MAX, any]);
+    match random.below(5) {
+        0 => Step::Relax(cell),
+        1 => Step::Slack(cell),
+        2 => Step::Estimate(bad_line(random, trial), any_length(random, trial)),
+        _ => refused_list_call(random, trial),
+    }
+}
+
+/// A proposal or a run, with a bad line, ordering or length.
+fn refused_list_call(random: &mut Random, trial: &Trial) -> Step {
+    if random.chance(50) {
+        let line = bad_line(random, trial);
+        let length = any_length(random, trial);
+        return Step::Propose(line, (0..length).map(|_| random.any_u32()).collect());
+    }
     let any = random.any_u32();
-    let line = random.pick(&[0, rows + 1, u32::MAX, any, 1]);
-    let cell = random.pick(&[
-        problem.cells(),
-        problem.cells() + 1,
-        usize::MAX,
-        any as usize,
-    ]);
-    let length = if random.chance(50) {
+    Step::Run(Sweep {
+        budget: random.pick(&[0, 1, 100]),
+        order: random.pick(&[3, 4, 256, u32::MAX, any | 4]),
+        proposals: random.chance(50),
+    })
+}
+
+/// A line outside the grid, or now and then its first one.
+fn bad_line(random: &mut Random, trial: &Trial) -> u32 {
+    let any = random.any_u32();
+    random.pick(&[0, trial.sides().plain.head.rows + 1, u32::MAX, any, 1])
+}
+
+/// The length of a line, or a wrong one.
+fn any_length(random: &mut Random, trial: &Trial) -> usize {
+    let columns = trial.sides().plain.head.columns as usize;
+    if random.chance(50) {
         columns
     } else {
         damage::length(random, columns)
-    };
-    let step = match random.below(5) {
-        0 => Step::Relax(cell),
-        1 => Step::Slack(cell),
-        2 => Step::Estimate(line, length),
-        3 => Step::Propose(line, (0..length).map(|_| random.any_u32()).collect()),
-        _ => Step::Run(Sweep {
-            budget: random.pick(&[0, 1, 100]),
-            order: random.pick(&[3, 4, 256, u32::MAX, any | 4]),
-            proposals: random.chance(50),
-        }),
-    };
-    trial.step(step)
+    }
 }
 
 /// Calls on the same field with a film that has faults, and then the film again.

@@ -2,6 +2,7 @@
 //! from a seed that is printed.
 
 mod binding;
+mod coefficient_calls;
 mod damage;
 mod fields;
 mod films;

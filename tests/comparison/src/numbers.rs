@@ -1,9 +1,10 @@
 //! The inputs of calls: a film as it was gauged, and as coefficients.
 
-use crate::lent::Lent;
+use crate::lent::{Differences, Lent};
 use film::{raw, Head};
 use film_oracle::calls::Problem as OracleProblem;
-use film_oracle::coefficients::{form, System};
+use film_oracle::coefficient_film::{convert, CoefficientFilm};
+use film_oracle::coefficients::{Coefficients, System};
 use film_oracle::film::{Film, Numbers as OracleNumbers};
 use film_oracle::Whole;
 
@@ -42,7 +43,7 @@ impl Gauge {
 }
 
 /// A film as coefficients, or what a caller gives for them.
-#[derive(Clone, Debug)]
+#[derive(Clone, Debug, Default)]
 pub struct Problem {
     pub head: Head,
     pub weights: Vec<u16>,
@@ -52,17 +53,27 @@ pub struct Problem {
     pub sources: Vec<i64>,
 }
 
+impl From<&CoefficientFilm> for Problem {
+    fn from(film: &CoefficientFilm) -> Problem {
+        let coefficients = &film.coefficients;
+        Problem {
+            head: head(film.rows(), film.columns(), film.ceiling),
+            weights: film.weights.clone(),
+            diagonals: coefficients.diagonals.iter().map(|&d| d as u32).collect(),
+            rights: coefficients
+                .rights
+                .iter()
+                .map(|&link| link as u32)
+                .collect(),
+            ups: coefficients.ups.iter().map(|&link| link as u32).collect(),
+            sources: coefficients.sources.iter().map(|&s| s as i64).collect(),
+        }
+    }
+}
+
 impl From<&Film> for Problem {
     fn from(film: &Film) -> Problem {
-        let formed = form(film);
-        Problem {
-            head: head(film.rows, film.columns, film.ceiling),
-            weights: film.weights.clone(),
-            diagonals: formed.diagonals.iter().map(|&d| d as u32).collect(),
-            rights: formed.rights.iter().map(|&link| link as u32).collect(),
-            ups: formed.ups.iter().map(|&link| link as u32).collect(),
-            sources: formed.sources.iter().map(|&s| s as i64).collect(),
-        }
+        Problem::from(&convert(film))
     }
 }
 
@@ -70,6 +81,22 @@ impl Problem {
     /// N, where the shape is a good one.
     pub fn cells(&self) -> usize {
         self.head.rows as usize * self.head.columns as usize
+    }
+
+    /// As the oracle has a coefficient file's numbers, tested or not.
+    pub fn film(&self) -> CoefficientFilm {
+        CoefficientFilm {
+            ceiling: self.head.ceiling,
+            weights: self.weights.clone(),
+            coefficients: Coefficients {
+                rows: self.head.rows as usize,
+                columns: self.head.columns as usize,
+                diagonals: wide(&self.diagonals),
+                rights: wide(&self.rights),
+                ups: wide(&self.ups),
+                sources: wide(&self.sources),
+            },
+        }
     }
 }
 
@@ -82,32 +109,38 @@ pub struct Sides {
     ups: Vec<Whole>,
     sources: Vec<Whole>,
     /// Those lent to the library.
-    pub lent: LentProblem,
+    lent: LentProblem,
 }
 
-pub struct LentProblem {
-    pub head: Head,
-    pub weights: Lent<u16>,
-    pub diagonals: Lent<u32>,
-    pub rights: Lent<u32>,
-    pub ups: Lent<u32>,
-    pub sources: Lent<i64>,
+struct LentProblem {
+    head: Head,
+    weights: Lent<u16>,
+    diagonals: Lent<u32>,
+    rights: Lent<u32>,
+    ups: Lent<u32>,
+    sources: Lent<i64>,
 }
 
 impl Sides {
     pub fn new(plain: Problem) -> Sides {
+        let lent = plain.clone();
+        Sides::read(plain, &lent)
+    }
+
+    /// Each side has its own numbers: the oracle's, and those that the library has read.
+    pub fn read(plain: Problem, lent: &Problem) -> Sides {
         Sides {
             diagonals: wide(&plain.diagonals),
             rights: wide(&plain.rights),
             ups: wide(&plain.ups),
             sources: wide(&plain.sources),
             lent: LentProblem {
-                head: plain.head,
-                weights: Lent::new(&plain.weights, 1),
-                diagonals: Lent::new(&plain.diagonals, 77),
-                rights: Lent::new(&plain.rights, 77),
-                ups: Lent::new(&plain.ups, 77),
-                sources: Lent::new(&plain.sources, -77),
+                head: lent.head,
+                weights: Lent::new(&lent.weights, 1),
+                diagonals: Lent::new(&lent.diagonals, 77),
+                rights: Lent::new(&lent.rights, 77),
+                ups: Lent::new(&lent.ups, 77),
+                sources: Lent::new(&lent.sources, -77),
             },
             plain,
         }
@@ -135,6 +168,17 @@ impl Sides {
             ups: self.lent.ups.slice(),
             sources: self.lent.sources.slice(),
         }
+    }
+
+    /// No call changes a film's numbers.
+    pub fn compare(&self, differences: &mut Differences) {
+        let (plain, lent) = (&self.plain, &self.lent);
+        differences.same("head", plain.head, lent.head);
+        differences.lent("weights", &plain.weights, &lent.weights);
+        differences.lent("diagonals", &plain.diagonals, &lent.diagonals);
+        differences.lent("rights", &plain.rights, &lent.rights);
+        differences.lent("ups", &plain.ups, &lent.ups);
+        differences.lent("sources", &plain.sources, &lent.sources);
     }
 
     /// The coefficients of a good shape, for the oracle's parts below its calls.

@@ -1,8 +1,9 @@
-//! Random films as coefficients, from no film file: all that the limits allow.
+//! Random films as coefficients, from no gauge: all that the limits allow.
 
-use crate::films::{any_ceiling, shape};
+use crate::films::{any_ceiling, shape, HIGHEST_CEILING};
 use crate::numbers::{head, Problem};
 use crate::random::Random;
+use film_oracle::report::REPORT_BUDGET;
 
 pub const HIGHEST_LINK: i64 = 1 << 24;
 pub const HIGHEST_DIAGONAL: i64 = 1 << 27;
@@ -12,7 +13,12 @@ const HIGHEST_ESTIMATE: i64 = 1 << 25;
 
 /// A random film that the numeric calls accept.
 pub fn accepted(random: &mut Random) -> Problem {
-    let (rows, columns) = shape(random);
+    let shape = shape(random);
+    shaped(random, shape)
+}
+
+/// The same of a given shape.
+pub fn shaped(random: &mut Random, (rows, columns): (usize, usize)) -> Problem {
     let cells = rows * columns;
     let mut problem = Problem {
         head: head(rows, columns, any_ceiling(random)),
@@ -43,6 +49,27 @@ pub fn exact(random: &mut Random) -> (Problem, Vec<u32>) {
         .map(|cell| balancing_source(&problem, &field, cell))
         .collect();
     (problem, field)
+}
+
+/// Two cells whose link is one less than their diagonals. With sources of −s the k-th relaxation of a
+/// run from zero raises its cell to k, until k passes s: here near the report's budget, so that the
+/// run is Done, Over or Stopped on its last relaxations.
+pub fn climbing(random: &mut Random) -> Problem {
+    let budget = i64::from(REPORT_BUDGET);
+    let diagonal = random.pick(&[HIGHEST_LINK, HIGHEST_LINK + 1, budget + 10]) as u32;
+    let near = (budget + random.within(-2, 2)) as u32;
+    let reach = budget + random.within(-6, 6);
+    let (rows, columns) = random.pick(&[(1, 2), (2, 1)]);
+    let mut problem = Problem {
+        head: head(rows, columns, random.pick(&[HIGHEST_CEILING, near])),
+        weights: vec![random.within(1, 65_535) as u16; 2],
+        diagonals: vec![diagonal; 2],
+        rights: vec![diagonal - 1; 2],
+        ups: vec![diagonal - 1; 2],
+        sources: vec![-reach; 2],
+    };
+    clear_ends(&mut problem);
+    problem
 }
 
 /// The source that makes a cell's slack 0.

@@ -29,7 +29,7 @@ impl Tally {
         for (call, answers) in &self.answers {
             let total: u64 = answers.values().sum();
             let parts: Vec<String> = answers.iter().map(|(a, n)| format!("{a} {n}")).collect();
-            println!("{call:15} {total:9}: {}", parts.join(", "));
+            println!("{call:18} {total:9}: {}", parts.join(", "));
         }
     }
 }

@@ -1,6 +1,7 @@
 //! One film's trial: a list of calls, each made on the oracle and on the library. The calls on a
 //! film share one field, as each side left it.
 
+use crate::coefficient_calls;
 use crate::fields::Sweep;
 use crate::lent::{Differences, Lent};
 use crate::numbers::{head, Gauge, Problem, Sides};
@@ -17,13 +18,13 @@ use std::fmt;
 
 /// What results hold before a call, so that one which the call should leave alone shows.
 const UNSET: u32 = 0xdead_beef;
-const UNSET_HEAD: Head = Head {
+pub const UNSET_HEAD: Head = Head {
     rows: UNSET,
     columns: UNSET,
     ceiling: UNSET,
 };
 const UNSET_SLACK: i64 = -0x5ead_beef_5ead_beef;
-const UNSET_PLACE: usize = 0x0bad_cafe_0bad_cafe;
+pub const UNSET_PLACE: usize = 0x0bad_cafe_0bad_cafe;
 
 /// The room that the report's call asks for.
 pub const REPORT_ROOM: usize = 33_288;
@@ -45,10 +46,19 @@ pub enum Step {
     Film(Problem),
     /// The field that the calls that follow share.
     Field(Vec<u32>),
+    /// The file of the calls that follow, of either kind: each side has what it reads from it, and the
+    /// zero field.
+    Begin(File),
     /// The file, and the lengths of the two buffers.
     Read(File, usize, usize),
+    /// The file, and the lengths of the buffers for weights, diagonals, rights, ups and sources.
+    ReadCoefficients(File, [usize; 5]),
     /// The film's numbers, and the length of the slice for the file.
     Write(Gauge, usize),
+    /// The film's coefficients, and the length of the slice for the coefficient file.
+    WriteCoefficients(Problem, usize),
+    /// The film's numbers, and the length of the slice for the coefficient file.
+    Convert(Gauge, usize),
     /// The film's numbers, and the lengths of the slices for diagonals, rights, ups and sources.
     Form(Gauge, [usize; 4]),
     /// The cell.
@@ -90,19 +100,11 @@ pub type Compared = Result<(), Box<Disagreement>>;
 
 impl<'a> Trial<'a> {
     pub fn new(file: Vec<u8>, tally: &'a mut Tally) -> Trial<'a> {
-        let none = Problem {
-            head: Head::default(),
-            weights: Vec::new(),
-            diagonals: Vec::new(),
-            rights: Vec::new(),
-            ups: Vec::new(),
-            sources: Vec::new(),
-        };
         Trial {
             file: File(file),
             steps: Vec::new(),
             tally,
-            sides: Sides::new(none),
+            sides: Sides::new(Problem::default()),
             field: Vec::new(),
             lent: Lent::new(&[], UNSET),
         }
@@ -116,25 +118,45 @@ impl<'a> Trial<'a> {
         &self.field
     }
 
+    /// The library's field, which is the same unless a step has shown a difference.
+    pub fn library_field(&self) -> &[u32] {
+        self.lent.slice()
+    }
+
     /// Makes a step on both sides and compares all that it told and all that it was lent.
     pub fn step(&mut self, step: Step) -> Compared {
         self.steps.push(step.clone());
         let mut differences = Differences::default();
         match step {
             Step::Film(problem) => self.sides = Sides::new(problem),
-            Step::Field(field) => {
-                self.lent = Lent::new(&field, UNSET);
-                self.field = field;
+            Step::Field(field) => self.set_field(field),
+            Step::Begin(file) => {
+                self.sides = coefficient_calls::film(&file.0, self.tally, &mut differences);
+                self.set_field(vec![0; self.sides.plain.cells()]);
             }
             Step::Read(file, weights, thicknesses) => {
                 read(&file.0, weights, thicknesses, self.tally, &mut differences)
             }
+            Step::ReadCoefficients(file, lengths) => {
+                coefficient_calls::read(&file.0, lengths, self.tally, &mut differences)
+            }
             Step::Write(gauge, length) => write(&gauge, length, self.tally, &mut differences),
+            Step::WriteCoefficients(problem, length) => {
+                coefficient_calls::write(problem, length, self.tally, &mut differences)
+            }
+            Step::Convert(gauge, length) => {
+                coefficient_calls::convert(&gauge, length, self.tally, &mut differences)
+            }
             Step::Form(gauge, lengths) => form(&gauge, lengths, self.tally, &mut differences),
             Step::Report(file, length) => report(&file.0, length, self.tally, &mut differences),
             step => self.on_field(step, &mut differences),
         }
         self.ended(differences)
+    }
+
+    fn set_field(&mut self, field: Vec<u32>) {
+        self.lent = Lent::new(&field, UNSET);
+        self.field = field;
     }
 
     /// The trial's state after a comparison.
@@ -161,13 +183,7 @@ impl<'a> Trial<'a> {
             other => unreachable!("no call on a field: {other:?}"),
         }
         differences.lent("field", &self.field, &self.lent);
-        let (plain, lent) = (&self.sides.plain, &self.sides.lent);
-        differences.same("head", plain.head, lent.head);
-        differences.lent("weights", &plain.weights, &lent.weights);
-        differences.lent("diagonals", &plain.diagonals, &lent.diagonals);
-        differences.lent("rights", &plain.rights, &lent.rights);
-        differences.lent("ups", &plain.ups, &lent.ups);
-        differences.lent("sources", &plain.sources, &lent.sources);
+        self.sides.compare(differences);
     }
 
     fn relax(&mut self, cell: usize, differences: &mut Differences) {
@@ -301,7 +317,7 @@ fn ran(outcome: Outcome) -> ([u32; 4], usize, &'static str) {
 }
 
 /// The number that was answered, and the place: an answer leaves it as it was.
-fn refusals<T>(
+pub fn refusals<T>(
     wanted: &Result<T, Refusal>,
     number: u32,
     place: usize,
@@ -350,7 +366,7 @@ fn read(
 }
 
 /// Lends a film's numbers to a call, and looks whether they are unchanged.
-fn with_gauge(
+pub fn with_gauge(
     gauge: &Gauge,
     differences: &mut Differences,
     call: impl FnOnce(raw::Gauge) -> u32,

@@ -85,6 +85,19 @@ fn check_lengths(given: &Given) -> Result<(), Refusal> {
     }
 }
 
+/// Refusal 14 of a film's coefficients, at the lowest cell over all four lists.
+pub fn check_limits(system: System) -> Result<(), Refusal> {
+    check_coefficients(&Given {
+        rows: system.rows as Whole,
+        columns: system.columns as Whole,
+        diagonals: Some(system.diagonals),
+        rights: Some(system.rights),
+        ups: Some(system.ups),
+        sources: Some(system.sources),
+        ..Given::default()
+    })
+}
+
 fn check_coefficients(given: &Given) -> Result<(), Refusal> {
     match (0..cells(given)).find(|&cell| !coefficients_fit(given, cell)) {
         Some(cell) => refuse(14, cell),

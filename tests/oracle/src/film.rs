@@ -1,7 +1,7 @@
 //! The film file: its numbers, its reader and its writer (document 01, "The film file" and
-//! "Refusals").
+//! "Refusals"). Fields 01 to 03 and the tests of single numbers are those of a coefficient film too.
 
-use crate::coefficients::form;
+use crate::coefficients::{form, System};
 use crate::relax::first_not_dominant;
 use crate::{refuse, Refusal, Whole};
 
@@ -64,26 +64,54 @@ fn wedge_offset(rows: usize, columns: usize) -> usize {
     21 + 2 * rows * columns + thickness_count(rows, columns)
 }
 
-/// Reads a film file into numbers of its own. The tests come field by field: header, tag, length,
-/// presence of the body, values; then bytes after field 05; then dominance.
-pub fn read(bytes: &[u8]) -> Result<Film, Refusal> {
+/// The numbers of fields 01, 02 and 03, with which a file of either kind begins.
+pub(crate) struct Opening {
+    pub rows: usize,
+    pub columns: usize,
+    pub ceiling: u32,
+    pub weights: Vec<u16>,
+}
+
+/// Where the tag after field 03 lies.
+pub(crate) fn after_weights(cells: usize) -> usize {
+    WEIGHTS_AT + 2 * cells
+}
+
+/// Reads fields 01, 02 and 03, each: header, tag, length, presence of the body, values.
+pub(crate) fn read_opening(bytes: &[u8]) -> Result<Opening, Refusal> {
     let shape = body(bytes, 0, 0x01, 2)?;
     let (rows, columns) = (usize::from(shape[0]), usize::from(shape[1]));
     check_shape(rows as Whole, columns as Whole)?;
 
     let ceiling = be_u32(body(bytes, 5, 0x02, 4)?);
-    check_ceiling(ceiling)?;
+    check_ceiling(ceiling.into())?;
 
-    let cells = rows * columns;
-    let weights: Vec<u16> = body(bytes, 12, 0x03, 2 * cells)?
+    let weights: Vec<u16> = body(bytes, 12, 0x03, 2 * rows * columns)?
         .chunks(2)
         .map(|pair| u16::from_be_bytes([pair[0], pair[1]]))
         .collect();
     check_weights(&weights)?;
+    Ok(Opening {
+        rows,
+        columns,
+        ceiling,
+        weights,
+    })
+}
 
-    let thickness_header = thickness_offset(cells) - 3;
+/// Reads a film file into numbers of its own. The tests come field by field: header, tag, length,
+/// presence of the body, values; then bytes after field 05; then dominance.
+pub fn read(bytes: &[u8]) -> Result<Film, Refusal> {
+    let Opening {
+        rows,
+        columns,
+        ceiling,
+        weights,
+    } = read_opening(bytes)?;
+
+    let cells = rows * columns;
     let count = thickness_count(rows, columns);
-    let thickness = body(bytes, thickness_header, 0x04, count)?.to_vec();
+    let thickness = body(bytes, after_weights(cells), 0x04, count)?.to_vec();
     check_thickness(&thickness, cells)?;
 
     let wedge_header = wedge_offset(rows, columns) - 3;
@@ -102,7 +130,7 @@ pub fn read(bytes: &[u8]) -> Result<Film, Refusal> {
         thickness,
         wedge,
     };
-    check_dominance(&film)?;
+    check_dominance(form(&film).system(), &film.weights)?;
     Ok(film)
 }
 
@@ -123,7 +151,7 @@ pub fn read_into(
 }
 
 /// One field: the header of three bytes, its tag, its length, then its body.
-fn body(bytes: &[u8], at: usize, tag: u8, length: usize) -> Result<&[u8], Refusal> {
+pub(crate) fn body(bytes: &[u8], at: usize, tag: u8, length: usize) -> Result<&[u8], Refusal> {
     if bytes.len() < at + 3 {
         return refuse(1, bytes.len());
     }
@@ -183,7 +211,7 @@ pub fn check_numbers(
     if !fits {
         return refuse(10, 0);
     }
-    check_ceiling(given.ceiling)?;
+    check_ceiling(given.ceiling.into())?;
     check_weights(given.weights)?;
     check_thickness(given.thickness, cells)?;
     check_wedge(given.wedge, rows, columns)?;
@@ -195,7 +223,7 @@ pub fn check_numbers(
         thickness: given.thickness.to_vec(),
         wedge: given.wedge,
     };
-    check_dominance(&film)?;
+    check_dominance(form(&film).system(), &film.weights)?;
     Ok(film)
 }
 
@@ -209,23 +237,29 @@ pub fn write_into(given: Numbers, out: &mut [u8]) -> Result<(), Refusal> {
 
 /// The bytes of a film file, with no test at all: test vectors need refused files too.
 pub fn write(film: &Film) -> Vec<u8> {
-    let weights: Vec<u8> = film.weights.iter().flat_map(|w| w.to_be_bytes()).collect();
-    let mut bytes = Vec::new();
-    put_field(&mut bytes, 0x01, &[film.rows as u8, film.columns as u8]);
-    put_field(&mut bytes, 0x02, &film.ceiling.to_be_bytes());
-    put_field(&mut bytes, 0x03, &weights);
+    let mut bytes = write_opening((film.rows, film.columns), film.ceiling, &film.weights);
     put_field(&mut bytes, 0x04, &film.thickness);
     put_field(&mut bytes, 0x05, &film.wedge.to_be_bytes());
     bytes
 }
 
-fn put_field(bytes: &mut Vec<u8>, tag: u8, body: &[u8]) {
+/// Fields 01, 02 and 03.
+pub(crate) fn write_opening(shape: (usize, usize), ceiling: u32, weights: &[u16]) -> Vec<u8> {
+    let weights: Vec<u8> = weights.iter().flat_map(|w| w.to_be_bytes()).collect();
+    let mut bytes = Vec::new();
+    put_field(&mut bytes, 0x01, &[shape.0 as u8, shape.1 as u8]);
+    put_field(&mut bytes, 0x02, &ceiling.to_be_bytes());
+    put_field(&mut bytes, 0x03, &weights);
+    bytes
+}
+
+pub(crate) fn put_field(bytes: &mut Vec<u8>, tag: u8, body: &[u8]) {
     bytes.push(tag);
     bytes.extend((body.len() as u16).to_be_bytes());
     bytes.extend(body);
 }
 
-fn check_shape(rows: Whole, columns: Whole) -> Result<(), Refusal> {
+pub(crate) fn check_shape(rows: Whole, columns: Whole) -> Result<(), Refusal> {
     if !(1..=LARGEST_SIDE).contains(&rows) {
         return refuse(4, ROWS_AT);
     }
@@ -235,14 +269,14 @@ fn check_shape(rows: Whole, columns: Whole) -> Result<(), Refusal> {
     Ok(())
 }
 
-fn check_ceiling(ceiling: u32) -> Result<(), Refusal> {
-    if !(1..=LARGEST_CEILING).contains(&Whole::from(ceiling)) {
+pub(crate) fn check_ceiling(ceiling: Whole) -> Result<(), Refusal> {
+    if !(1..=LARGEST_CEILING).contains(&ceiling) {
         return refuse(5, CEILING_AT);
     }
     Ok(())
 }
 
-fn check_weights(weights: &[u16]) -> Result<(), Refusal> {
+pub(crate) fn check_weights(weights: &[u16]) -> Result<(), Refusal> {
     match weights.iter().position(|&weight| weight == 0) {
         Some(cell) => refuse(6, WEIGHTS_AT + 2 * cell),
         None => Ok(()),
@@ -267,8 +301,8 @@ fn check_wedge(wedge: i32, rows: usize, columns: usize) -> Result<(), Refusal> {
     Ok(())
 }
 
-fn check_dominance(film: &Film) -> Result<(), Refusal> {
-    match first_not_dominant(form(film).system(), &film.weights) {
+pub(crate) fn check_dominance(system: System, weights: &[u16]) -> Result<(), Refusal> {
+    match first_not_dominant(system, weights) {
         Some(cell) => refuse(9, cell),
         None => Ok(()),
     }

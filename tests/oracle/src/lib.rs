@@ -1,12 +1,15 @@
-//! Test oracle, written from document 01 alone. It shares nothing with the program under test: no
-//! code, no dependency, no constant. Whole numbers are `i128`, in which nothing here can overflow;
+//! Test oracle, written from documents 01 and 02 alone. It shares nothing with the program under
+//! test: no code, no dependency, no constant. Whole numbers are `i128`, in which nothing here can overflow;
 //! binary64 appears only in the estimate of a line, where document 01 asks for it, one rounding
 //! for each operation and in the text's order.
 //!
-//! Every module follows one section of document 01. The comments name the section's own words.
+//! Every module follows one section of document 01, or one request of document 02. The comments name
+//! the section's own words.
 
 pub mod calls;
 pub mod checks;
+pub mod coefficient_film;
+mod coefficient_vectors;
 pub mod coefficients;
 pub mod film;
 pub mod line;

@@ -1,9 +1,10 @@
-//! The report on a file's bytes (document 01, "The report").
+//! The report on a file's bytes (document 01, "The report"), of either kind of film (document 02, W1).
 
-use crate::coefficients::{form, System};
-use crate::film::{read, Film};
+use crate::coefficient_film::{self, convert, CoefficientFilm};
+use crate::film::{self, after_weights};
 use crate::relax::slack;
 use crate::run::{run, Answer, Ordering, Outcome};
+use crate::Refusal;
 
 /// Relaxations that the reported run may use.
 pub const REPORT_BUDGET: u32 = 4_000_000;
@@ -18,12 +19,29 @@ pub fn report(bytes: &[u8]) -> Vec<u8> {
     text.into_bytes()
 }
 
+/// The film of a file of either kind, as coefficients: the coefficient reader where the tag after
+/// field 03 is 06.
+pub fn read(bytes: &[u8]) -> Result<CoefficientFilm, Refusal> {
+    if tag_after_weights(bytes) == Some(0x06) {
+        coefficient_film::read(bytes)
+    } else {
+        film::read(bytes).map(|film| convert(&film))
+    }
+}
+
+/// The byte after field 03, by the shape that stands in the file: None where the file ends before
+/// it. Fields 01 to 03 need not be good ones, since both readers refuse them alike.
+fn tag_after_weights(bytes: &[u8]) -> Option<u8> {
+    let (rows, columns) = (*bytes.get(3)?, *bytes.get(4)?);
+    let cells = usize::from(rows) * usize::from(columns);
+    bytes.get(after_weights(cells)).copied()
+}
+
 /// The run that a report shows, and the field it leaves.
-pub fn reported_run(film: &Film) -> (Outcome, Vec<u32>) {
-    let formed = form(film);
+pub fn reported_run(film: &CoefficientFilm) -> (Outcome, Vec<u32>) {
     let mut field = vec![0; film.cells()];
     let outcome = run(
-        formed.system(),
+        film.system(),
         film.ceiling,
         &film.weights,
         &mut field,
@@ -34,7 +52,7 @@ pub fn reported_run(film: &Film) -> (Outcome, Vec<u32>) {
     (outcome, field)
 }
 
-fn report_film(film: &Film) -> String {
+fn report_film(film: &CoefficientFilm) -> String {
     let (outcome, field) = reported_run(film);
     let (word, over) = match outcome.answer {
         Answer::Done => ("DONE", None),
@@ -43,20 +61,25 @@ fn report_film(film: &Film) -> String {
     };
     let mut text = format!(
         "FILM {} {} CEILING {}\n{} {} {}\n",
-        film.rows, film.columns, film.ceiling, word, outcome.visits, outcome.raises
+        film.rows(),
+        film.columns(),
+        film.ceiling,
+        word,
+        outcome.visits,
+        outcome.raises
     );
     match over {
         Some(cell) => text.push_str(&format!("{}\n", place(film, cell))),
-        None => text.push_str(&field_lines(film, form(film).system(), &field)),
+        None => text.push_str(&field_lines(film, &field)),
     }
     text
 }
 
 /// A line for each cell by index, then the peak.
-fn field_lines(film: &Film, system: System, field: &[u32]) -> String {
+fn field_lines(film: &CoefficientFilm, field: &[u32]) -> String {
     let mut text = String::new();
     for (cell, pressure) in field.iter().enumerate() {
-        let slack = slack(system, field, cell);
+        let slack = slack(film.system(), field, cell);
         text.push_str(&format!("{} {pressure} {slack}\n", place(film, cell)));
     }
     let peak = peak(field);
@@ -76,6 +99,7 @@ fn peak(field: &[u32]) -> usize {
 }
 
 /// r and c of a cell, from (1, 1).
-fn place(film: &Film, cell: usize) -> String {
-    format!("{} {}", cell / film.columns + 1, cell % film.columns + 1)
+fn place(film: &CoefficientFilm, cell: usize) -> String {
+    let columns = film.columns();
+    format!("{} {}", cell / columns + 1, cell % columns + 1)
 }

@@ -1,7 +1,11 @@
-//! The sample films. Each is a thickness law on a grid; the maker adds the least weights.
+//! The sample films. Gauged ones are a thickness law on a grid, coefficient films a law of faces on a
+//! mesh, or a gauged film converted; the makers add the least weights.
 
+use crate::coefficient_film::{self, convert, CoefficientFilm};
+use crate::coefficients::Coefficients;
 use crate::film::{write, Film};
-use crate::weights::least_weights;
+use crate::weights::{least_weights, least_weights_of};
+use crate::Whole;
 
 /// Largest ceiling of a film file.
 pub const HIGHEST: u32 = 16_777_216;
@@ -25,6 +29,53 @@ pub fn made(
         weights,
         thickness,
         wedge,
+    }
+}
+
+/// What a mesh has at a cell: how much it loses at the rim, its faces to column c + 1 and to row
+/// r + 1, and its source.
+pub struct Faces {
+    pub loss: Whole,
+    pub right: Whole,
+    pub up: Whole,
+    pub source: Whole,
+}
+
+/// A coefficient film from a law over row 1 to R and column 1 to C, with the least weights. Faces
+/// that lead out of the grid are left out: what flows through them is a loss.
+pub fn meshed(
+    (rows, columns): (usize, usize),
+    ceiling: u32,
+    law: impl Fn(usize, usize) -> Faces,
+) -> CoefficientFilm {
+    let mut coefficients = Coefficients {
+        rows,
+        columns,
+        diagonals: vec![0; rows * columns],
+        rights: vec![0; rows * columns],
+        ups: vec![0; rows * columns],
+        sources: vec![0; rows * columns],
+    };
+    for (r, c) in (1..=rows).flat_map(|r| (1..=columns).map(move |c| (r, c))) {
+        let cell = (r - 1) * columns + c - 1;
+        let faces = law(r, c);
+        coefficients.diagonals[cell] += faces.loss;
+        coefficients.sources[cell] = faces.source;
+        if c < columns {
+            coefficients.rights[cell] = faces.right;
+            coefficients.diagonals[cell] += faces.right;
+            coefficients.diagonals[cell + 1] += faces.right;
+        }
+        if r < rows {
+            coefficients.ups[cell] = faces.up;
+            coefficients.diagonals[cell] += faces.up;
+            coefficients.diagonals[cell + columns] += faces.up;
+        }
+    }
+    CoefficientFilm {
+        ceiling,
+        weights: least_weights_of(coefficients.clone()).expect("weights above 65,535"),
+        coefficients,
     }
 }
 
@@ -95,8 +146,72 @@ pub fn stopped() -> Film {
     })
 }
 
+// Widths of the mesh's columns and heights of its rows, the ring's among them, which has none.
+// Cells are small in the middle.
+const WIDTHS: [Whole; 18] = [0, 4, 3, 2, 2, 1, 1, 1, 1, 1, 1, 1, 1, 2, 2, 3, 4, 0];
+const HEIGHTS: [Whole; 14] = [0, 3, 2, 2, 1, 1, 1, 1, 1, 1, 2, 2, 3, 0];
+
+/// A pad with a pocket on a graded mesh, which no gauge grid gives. The film falls from 80 at the
+/// inlet to 20 at the outlet, and the pocket lies 40 deeper.
+pub fn mesh() -> CoefficientFilm {
+    meshed((12, 16), 1_000_000, |r, c| {
+        let [before, after] = [(r, c - 1), (r, c + 1)].map(|other| mesh_face((r, c), other));
+        let [below, above] = [(r - 1, c), (r + 1, c)].map(|other| mesh_face((r, c), other));
+        let rim = [
+            (c == 1, before),
+            (c == 16, after),
+            (r == 1, below),
+            (r == 12, above),
+        ];
+        let fall = mesh_thickness((r, c + 1)) - mesh_thickness((r, c - 1));
+        Faces {
+            loss: rim.iter().filter(|face| face.0).map(|face| face.1).sum(),
+            right: after,
+            up: above,
+            source: 50_000_000 * HEIGHTS[r] * fall,
+        }
+    })
+}
+
+/// The link of two neighbours: the cube of the sum of their thicknesses, as on a grid, but times the
+/// length of their face and by the distance of their middles, rounded down. The ring has no width, so
+/// a face at the rim is half as far away.
+fn mesh_face(one: (usize, usize), other: (usize, usize)) -> Whole {
+    let sum = mesh_thickness(one) + mesh_thickness(other);
+    let width = WIDTHS[one.1] + WIDTHS[other.1];
+    let height = HEIGHTS[one.0] + HEIGHTS[other.0];
+    let (length, twice_the_distance) = if one.0 == other.0 {
+        (HEIGHTS[one.0], width)
+    } else {
+        (WIDTHS[one.1], height)
+    };
+    2 * length * sum * sum * sum / twice_the_distance
+}
+
+/// Thickness at the middle of a cell, or of the ring.
+fn mesh_thickness((r, c): (usize, usize)) -> Whole {
+    let before: Whole = WIDTHS[..c].iter().sum();
+    let pocket = (5..=8).contains(&r) && (6..=10).contains(&c);
+    80 - (2 * before + WIDTHS[c]) + if pocket { 40 } else { 0 }
+}
+
+/// The small slider converted, but with its faces to the ring among the right links, as a mesh might
+/// hold them: they belong into the diagonals alone, and the film is refused with 14 at the end of its
+/// first row.
+pub fn refused_coefficients() -> CoefficientFilm {
+    let gauged = over();
+    let mut film = convert(&gauged);
+    let columns = gauged.columns;
+    for r in 1..=gauged.rows {
+        let sum = gauged.thickness_at(r, columns) + gauged.thickness_at(r, columns + 1);
+        film.coefficients.rights[r * columns - 1] = sum * sum * sum;
+    }
+    film
+}
+
 /// Every sample with its name, in the order of the page that describes them.
 pub fn samples() -> Vec<(&'static str, Vec<u8>)> {
+    let coefficients = coefficient_film::write;
     vec![
         ("film-f", write(&film_f())),
         ("tilted-pad", write(&tilted_pad())),
@@ -104,5 +219,11 @@ pub fn samples() -> Vec<(&'static str, Vec<u8>)> {
         ("over", write(&over())),
         ("refused", write(&refused())),
         ("stopped", write(&stopped())),
+        ("film-f-coefficients", coefficients(&convert(&film_f()))),
+        ("mesh", coefficients(&mesh())),
+        (
+            "refused-coefficients",
+            coefficients(&refused_coefficients()),
+        ),
     ]
 }

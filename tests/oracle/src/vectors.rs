@@ -1,6 +1,8 @@
 //! The films of the test vectors, in order. All of them are fixed: random thicknesses come from a
 //! small generator with a fixed seed.
 
+use crate::coefficient_film::convert;
+use crate::coefficient_vectors;
 use crate::film::{file_length, write, Film};
 use crate::report::reported_run;
 use crate::samples::{film_f, journal, made, samples, HIGHEST};
@@ -8,8 +10,8 @@ use crate::samples::{film_f, journal, made, samples, HIGHEST};
 /// A name and the bytes of a file, accepted or not.
 pub type Vector = (String, Vec<u8>);
 
-/// Bytes that replace those at an offset of film F.
-type Patch<'a> = (usize, &'a [u8]);
+/// Bytes that replace those at an offset of a file.
+pub(crate) type Patch<'a> = (usize, &'a [u8]);
 
 /// Every vector; the names carry their place in the order.
 pub fn all() -> Vec<Vector> {
@@ -30,13 +32,14 @@ pub fn all() -> Vec<Vector> {
     for (name, bytes) in samples() {
         list.add(&format!("sample-{name}"), bytes);
     }
+    coefficient_vectors::add(&mut list);
     list.0
 }
 
-struct List(Vec<Vector>);
+pub(crate) struct List(Vec<Vector>);
 
 impl List {
-    fn add(&mut self, name: &str, bytes: Vec<u8>) {
+    pub(crate) fn add(&mut self, name: &str, bytes: Vec<u8>) {
         let number = self.0.len() + 1;
         self.0.push((format!("{number:03}-{name}"), bytes));
     }
@@ -52,7 +55,10 @@ impl List {
 }
 
 fn patched(patches: &[Patch]) -> Vec<u8> {
-    let mut bytes = write(&film_f());
+    patch(write(&film_f()), patches)
+}
+
+pub(crate) fn patch(mut bytes: Vec<u8>, patches: &[Patch]) -> Vec<u8> {
     for (at, patch) in patches {
         bytes[*at..at + patch.len()].copy_from_slice(patch);
     }
@@ -60,17 +66,17 @@ fn patched(patches: &[Patch]) -> Vec<u8> {
 }
 
 /// Marsaglia's xorshift generator of 64 bits.
-struct Generator(u64);
+pub(crate) struct Generator(pub(crate) u64);
 
 impl Generator {
-    fn next(&mut self) -> u64 {
+    pub(crate) fn next(&mut self) -> u64 {
         self.0 ^= self.0 << 13;
         self.0 ^= self.0 >> 7;
         self.0 ^= self.0 << 17;
         self.0
     }
 
-    fn within(&mut self, low: i64, high: i64) -> i64 {
+    pub(crate) fn within(&mut self, low: i64, high: i64) -> i64 {
         low + (self.next() % (high - low + 1) as u64) as i64
     }
 
@@ -442,7 +448,7 @@ fn peaks(list: &mut List) {
 
 /// The greatest pressure of the reported run.
 fn peak(film: &Film) -> u32 {
-    let (_, field) = reported_run(film);
+    let (_, field) = reported_run(&convert(film));
     field.into_iter().max().expect("at least one cell")
 }
 

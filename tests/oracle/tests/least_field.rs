@@ -1,12 +1,12 @@
 //! Done really holds the least field: by trying every field of small films, and by recomputing
 //! every report of the vectors in another way.
 
-use film_oracle::coefficients::form;
-use film_oracle::film::{read, write, Film};
-use film_oracle::relax::feasible;
-use film_oracle::report::report;
+use film_oracle::coefficient_film::{self, convert, CoefficientFilm};
+use film_oracle::film::{self, Film};
+use film_oracle::relax::{feasible, required};
+use film_oracle::report::{self, report};
 use film_oracle::run::{run, Answer, Ordering, Outcome};
-use film_oracle::samples::{journal_thickness, made};
+use film_oracle::samples::{journal_thickness, made, meshed, Faces};
 use film_oracle::vectors::all;
 use std::collections::HashSet;
 
@@ -37,12 +37,11 @@ fn next_field(field: &mut [u32], start: &[u32], ceiling: u32) -> bool {
 
 /// Cell by cell the lowest pressure of any feasible field at or above the start; None where there
 /// is no such field.
-fn least_by_trial(film: &Film, start: &[u32]) -> Option<Vec<u32>> {
-    let formed = form(film);
+fn least_by_trial(film: &CoefficientFilm, start: &[u32]) -> Option<Vec<u32>> {
     let mut least: Option<Vec<u32>> = None;
     let mut field = start.to_vec();
     loop {
-        if feasible(formed.system(), film.ceiling, &field) {
+        if feasible(film.system(), film.ceiling, &field) {
             let best = least.get_or_insert_with(|| field.clone());
             for (lowest, &pressure) in best.iter_mut().zip(&field) {
                 *lowest = pressure.min(*lowest);
@@ -54,10 +53,14 @@ fn least_by_trial(film: &Film, start: &[u32]) -> Option<Vec<u32>> {
     }
 }
 
-fn run_all(film: &Film, field: &mut [u32], ordering: Ordering, proposals: bool) -> Outcome {
-    let formed = form(film);
+fn run_all(
+    film: &CoefficientFilm,
+    field: &mut [u32],
+    ordering: Ordering,
+    proposals: bool,
+) -> Outcome {
     run(
-        formed.system(),
+        film.system(),
         film.ceiling,
         &film.weights,
         field,
@@ -67,28 +70,63 @@ fn run_all(film: &Film, field: &mut [u32], ordering: Ordering, proposals: bool) 
     )
 }
 
+impl Generator {
+    /// The zero field, or any that keeps the ceiling.
+    fn start(&mut self, film: &CoefficientFilm, zero: bool) -> Vec<u32> {
+        (0..film.cells())
+            .map(|_| self.below(u64::from(film.ceiling) + 1) as u32)
+            .map(|pressure| if zero { 0 } else { pressure })
+            .collect()
+    }
+
+    fn within(&mut self, low: i64, high: i64) -> i64 {
+        low + self.below((high - low + 1) as u64) as i64
+    }
+
+    fn gauged(&mut self, shape: (usize, usize), ceiling: u32) -> CoefficientFilm {
+        let wedge = self.within(-1_500, 1_499) as i32;
+        let numbers: Vec<u8> = (0..36).map(|_| 1 + self.below(4) as u8).collect();
+        convert(&made(shape, ceiling, wedge, |r, c| numbers[6 * r + c]))
+    }
+
+    /// Coefficients that come from no gauge: small ones, links of 0 among them.
+    fn mesh(&mut self, shape: (usize, usize), ceiling: u32) -> CoefficientFilm {
+        let numbers: Vec<[i64; 4]> = (0..16)
+            .map(|_| {
+                [
+                    self.within(1, 5),
+                    self.within(0, 6),
+                    self.within(0, 6),
+                    self.within(-20, 8),
+                ]
+            })
+            .collect();
+        meshed(shape, ceiling, |r, c| {
+            let [loss, right, up, source] = numbers[4 * (r - 1) + c - 1].map(i128::from);
+            Faces {
+                loss,
+                right,
+                up,
+                source,
+            }
+        })
+    }
+}
+
 #[test]
 fn small_films_by_trial() {
     let mut generator = Generator(0x1234_5678_9abc_def1);
     let shapes = [(1, 1), (1, 2), (2, 1), (1, 3), (2, 2), (3, 1), (1, 4)];
     let (mut done, mut over) = (0, 0);
-    for round in 0..1_400 {
+    for round in 0..2_800 {
         let shape = shapes[round % shapes.len()];
         let ceiling = 2 + generator.below(5) as u32;
-        let wedge = generator.below(3_000) as i32 - 1_500;
-        let numbers: Vec<u8> = (0..36).map(|_| 1 + generator.below(4) as u8).collect();
-        let film = made(shape, ceiling, wedge, |r, c| numbers[6 * r + c]);
-        let zero = round % 2 == 0;
-        let start: Vec<u32> = (0..film.cells())
-            .map(|_| {
-                let pressure = generator.below(u64::from(ceiling) + 1) as u32;
-                if zero {
-                    0
-                } else {
-                    pressure
-                }
-            })
-            .collect();
+        let film = if round < 1_400 {
+            generator.gauged(shape, ceiling)
+        } else {
+            generator.mesh(shape, ceiling)
+        };
+        let start = generator.start(&film, round % 2 == 0);
         let least = least_by_trial(&film, &start);
         for ordering in ORDERINGS {
             for proposals in [false, true] {
@@ -107,7 +145,7 @@ fn small_films_by_trial() {
         }
     }
     // Both answers must really have been tried.
-    assert!(done > 300 && over > 100, "{done} {over}");
+    assert!(done > 600 && over > 200, "{done} {over}");
 }
 
 /// A report taken apart.
@@ -155,30 +193,77 @@ fn slack_by_flows(film: &Film, pressures: &[i128], r: usize, c: usize) -> i128 {
     out + i128::from(film.wedge) * (h(r, c + 1) - h(r, c - 1))
 }
 
+/// A number of a file, where it lies.
+fn number(file: &[u8], at: usize, width: usize) -> i128 {
+    file[at..at + width]
+        .iter()
+        .fold(0, |high, &low| 256 * high + i128::from(low))
+}
+
+/// The slack as a sum of flows too, straight from a coefficient file's bytes: what a cell loses is
+/// its diagonal less its links.
+fn slack_by_faces(file: &[u8], pressures: &[i128], r: usize, c: usize) -> i128 {
+    let (rows, columns) = (usize::from(file[3]), usize::from(file[4]));
+    let cells = rows * columns;
+    let index = |r: usize, c: usize| (r - 1) * columns + c - 1;
+    let right = |r, c| number(file, 21 + 6 * cells + 4 * index(r, c), 4);
+    let up = |r, c| number(file, 24 + 10 * cells + 4 * index(r, c), 4);
+    let p = |r: usize, c: usize| pressures[r * (columns + 2) + c];
+    let mut loss = number(file, 18 + 2 * cells + 4 * index(r, c), 4);
+    let mut out = 0;
+    let mut flow = |link: i128, other: i128| {
+        loss -= link;
+        out += link * (p(r, c) - other);
+    };
+    if c > 1 {
+        flow(right(r, c - 1), p(r, c - 1));
+    }
+    if c < columns {
+        flow(right(r, c), p(r, c + 1));
+    }
+    if r > 1 {
+        flow(up(r - 1, c), p(r - 1, c));
+    }
+    if r < rows {
+        flow(up(r, c), p(r + 1, c));
+    }
+    let source = number(file, 27 + 14 * cells + 8 * index(r, c), 8);
+    let negative = source >= 1 << 63;
+    out + loss * p(r, c) + source - if negative { 1 << 64 } else { 0 }
+}
+
+/// The slack in the other way, by the kind of the film.
+fn slack_again(file: &[u8], pressures: &[i128], r: usize, c: usize) -> i128 {
+    match film::read(file) {
+        Ok(gauged) => slack_by_flows(&gauged, pressures, r, c),
+        Err(_) => slack_by_faces(file, pressures, r, c),
+    }
+}
+
 /// The field of a report with the ring's zeros around it.
-fn padded(film: &Film, parsed: &Parsed) -> Vec<i128> {
-    let wide = film.columns + 2;
-    let mut pressures = vec![0; (film.rows + 2) * wide];
+fn padded(film: &CoefficientFilm, parsed: &Parsed) -> Vec<i128> {
+    let wide = film.columns() + 2;
+    let mut pressures = vec![0; (film.rows() + 2) * wide];
     for &[r, c, pressure, _] in &parsed.cells {
         pressures[r as usize * wide + c as usize] = pressure;
     }
     pressures
 }
 
-fn check_field(name: &str, film: &Film, parsed: &Parsed) {
+fn check_field(name: &str, file: &[u8], film: &CoefficientFilm, parsed: &Parsed) {
     assert_eq!(parsed.cells.len(), film.cells(), "{name}");
     let pressures = padded(film, parsed);
     let mut peak = parsed.cells[0];
     for (cell, &[r, c, pressure, slack]) in parsed.cells.iter().enumerate() {
-        assert_eq!(r as usize, cell / film.columns + 1, "{name}");
-        assert_eq!(c as usize, cell % film.columns + 1, "{name}");
+        assert_eq!(r as usize, cell / film.columns() + 1, "{name}");
+        assert_eq!(c as usize, cell % film.columns() + 1, "{name}");
         assert!((0..=i128::from(film.ceiling)).contains(&pressure), "{name}");
-        let flows = slack_by_flows(film, &pressures, r as usize, c as usize);
-        assert_eq!(slack, flows, "{name}");
+        let again = slack_again(file, &pressures, r as usize, c as usize);
+        assert_eq!(slack, again, "{name}");
         if parsed.word == "DONE" {
             assert!(slack >= 0, "{name}");
             // One step less in this cell alone would not do.
-            let lower = form(film).diagonals[cell];
+            let lower = film.coefficients.diagonals[cell];
             assert!(pressure == 0 || slack < lower, "{name}");
         }
         if pressure > peak[2] {
@@ -190,7 +275,7 @@ fn check_field(name: &str, film: &Film, parsed: &Parsed) {
 }
 
 /// Visits, raises and total keep document 01's bounds.
-fn check_counts(name: &str, film: &Film, parsed: &Parsed) {
+fn check_counts(name: &str, film: &CoefficientFilm, parsed: &Parsed) {
     let cells = film.cells() as u64;
     assert!(parsed.visits <= 4_000_000 && parsed.raises <= parsed.visits);
     match parsed.word.as_str() {
@@ -207,11 +292,26 @@ fn check_counts(name: &str, film: &Film, parsed: &Parsed) {
     }
 }
 
-/// Other orderings and proposals reach the same least field. Hands back how many cells the
-/// proposals raised.
-fn check_other_runs(name: &str, film: &Film, parsed: &Parsed) -> u32 {
+/// The least field by rounds in which all cells rise at once, each by the round before.
+fn least_by_rounds(film: &CoefficientFilm) -> Vec<u32> {
+    let mut field = vec![0; film.cells()];
+    loop {
+        let risen: Vec<u32> = (0..film.cells())
+            .map(|cell| required(film.system(), &field, cell) as u32)
+            .collect();
+        if risen == field {
+            return field;
+        }
+        field = risen;
+    }
+}
+
+/// Other orderings and proposals, and rounds of all cells at once, reach the same least field. Hands
+/// back how many cells the proposals raised.
+fn check_other_runs(name: &str, film: &CoefficientFilm, parsed: &Parsed) -> u32 {
     let mut proposed = 0;
     let least: Vec<u32> = parsed.cells.iter().map(|cell| cell[2] as u32).collect();
+    assert_eq!(least_by_rounds(film), least, "{name}");
     for ordering in ORDERINGS {
         for proposals in [false, true] {
             let mut field = vec![0; film.cells()];
@@ -224,6 +324,14 @@ fn check_other_runs(name: &str, film: &Film, parsed: &Parsed) -> u32 {
     proposed
 }
 
+/// What the file's film is written as, by its kind.
+fn written_again(file: &[u8]) -> Vec<u8> {
+    match film::read(file) {
+        Ok(gauged) => film::write(&gauged),
+        Err(_) => coefficient_film::write(&coefficient_film::read(file).unwrap()),
+    }
+}
+
 #[test]
 fn every_vector_recomputed() {
     let mut names = HashSet::new();
@@ -232,16 +340,16 @@ fn every_vector_recomputed() {
     for (name, bytes) in all() {
         assert!(names.insert(name.clone()), "{name} twice");
         let text = String::from_utf8(report(&bytes)).unwrap();
-        let Ok(film) = read(&bytes) else {
+        let Ok(film) = report::read(&bytes) else {
             assert!(text.starts_with("REFUSED ") && text.lines().count() == 1);
             continue;
         };
-        assert_eq!(write(&film), bytes, "{name}");
+        assert_eq!(written_again(&bytes), bytes, "{name}");
         let parsed = parse(&text);
         if parsed.word == "OVER" {
             assert_eq!(text.lines().count(), 3, "{name}");
         } else {
-            check_field(&name, &film, &parsed);
+            check_field(&name, &bytes, &film, &parsed);
         }
         check_counts(&name, &film, &parsed);
         if parsed.word == "DONE" && parsed.visits < 1_000_000 {

@@ -1,10 +1,11 @@
-//! Reading a film file, forming coefficients, and printing the report.
+//! Reading a film file, forming coefficients, converting, and printing the report.
 
 use crate::calls::{self, head, Lent};
 use crate::clock::by_turns;
 use crate::page::{remark, Section};
 use crate::plain_file::{self, Numbers};
 use crate::problem::at_rest;
+use crate::sections::coefficient_files;
 use film::raw::Gauge;
 use film::Head;
 use film_oracle::coefficients::form;
@@ -18,10 +19,12 @@ use std::hint::black_box;
 const LONGEST: usize = 33_288;
 
 const NOTE: &str = "\
-Each call and plain Rust doing the same with the same tests. Reading is checked to agree on every test vector of
-the oracle, refused files among them. The report in Rust prints with `writeln!`. Nanoseconds a call. Buffers and
-slices are lent again from call to call and not cleared: each call writes all that it uses. The film at rest
-(32 × 32) is Done after one quiet round, so that its report is mostly printing; film F has two cells.";
+Each call and plain Rust doing the same with the same tests. Reading, of both kinds of film, is checked to agree
+on every test vector of the oracle, refused files among them. The report in Rust prints with `writeln!`.
+Nanoseconds a call. Buffers and slices are lent again from call to call and not cleared: each call writes all
+that it uses. Rust's reader of coefficient films decodes into tables of its own, 22 kB, which each call clears;
+its writer and its converter have none. The film at rest (32 × 32) is Done after one quiet round, so that its
+report is mostly printing; film F has two cells. As coefficients they are the same films, converted.";
 
 pub fn section() -> Section {
     vectors::all()
@@ -40,17 +43,21 @@ pub fn section() -> Section {
         rows.push(row("form", name, form_times(film)));
     }
     for (name, film) in [&films[0], &films[2]] {
-        rows.push(row("report", name, report_times(film)));
+        rows.push(row("report", name, report_times(&write(film))));
     }
+    rows.extend(coefficient_files::rows(&[
+        ("film F as coefficients, 1 × 2", samples::film_f()),
+        ("at rest as coefficients, 32 × 32", at_rest()),
+    ]));
     Section {
-        title: "4. Reading, forming coefficients, the report",
+        title: "4. Film files, forming coefficients, the report",
         note: NOTE.to_string(),
         heads: vec!["call", "film", "Film ns", "Rust ns", "time ratio", ""],
         rows,
     }
 }
 
-fn row(call: &str, name: &str, [film, rust]: [f64; 2]) -> Vec<String> {
+pub fn row(call: &str, name: &str, [film, rust]: [f64; 2]) -> Vec<String> {
     vec![
         call.to_string(),
         name.to_string(),
@@ -153,20 +160,20 @@ fn form_times(film: &Film) -> [f64; 2] {
     ])
 }
 
-fn report_times(film: &Film) -> [f64; 2] {
-    let file = write(film);
-    let expected = report(&file);
+/// The report of an accepted film's file.
+pub fn report_times(file: &[u8]) -> [f64; 2] {
+    let expected = report(file);
     let (mut out, mut text) = (vec![0; LONGEST], String::new());
-    let length = calls::report(&file, &mut out).expect("room enough");
+    let length = calls::report(file, &mut out).expect("room enough");
     assert!(out[..length] == expected, "Film's report");
-    plain_file::report(&file, &mut text).expect("an accepted film");
+    plain_file::report(file, &mut text).expect("an accepted film");
     assert!(text.as_bytes() == expected, "Rust's report");
     by_turns([
         &mut || {
-            let _ = black_box(calls::report(&file, &mut out));
+            let _ = black_box(calls::report(file, &mut out));
         },
         &mut || {
-            let _ = black_box(plain_file::report(&file, &mut text));
+            let _ = black_box(plain_file::report(file, &mut text));
         },
     ])
 }

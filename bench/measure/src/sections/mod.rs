@@ -1,5 +1,6 @@
 //! The sections of the page, one module for each.
 
+pub mod coefficient_files;
 pub mod files;
 pub mod growth;
 pub mod program;

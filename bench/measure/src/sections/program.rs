@@ -19,10 +19,10 @@ pub const MODE: &str = "report";
 const NOTE: &str = "\
 `film_report`, which `./film` runs, and a process that does the same in plain Rust: reading, forming, run and
 printing of sections 1 and 4. Each has a sample film as its standard input and prints the report into a pipe.
-Microseconds from a process's start to its end; film F's go into the start.";
+Microseconds from a process's start to its end; film F's go into the start. mesh.film is a coefficient film.";
 
 pub fn section() -> Section {
-    let films = ["film-f", "tilted-pad", "journal", "over", "stopped"];
+    let films = ["film-f", "tilted-pad", "journal", "over", "stopped", "mesh"];
     Section {
         title: "6. The report program as a whole",
         note: NOTE.to_string(),

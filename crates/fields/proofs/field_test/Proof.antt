@@ -1,11 +1,11 @@
 -- `fields::field_test` meets its contract: each arm tests the field of the byte that stands there, and where that is not the tag that should,
 -- it is refused before its length or its values count (`tries-found`).
 use mathlib.Core.Logic.{⊎-elim}
-use borrow.Author.Tests.{ne-eqb}
+use native.Mathlib.Omega.{arith}
 use denote.Ref.{now}
 use Rattle.fields.specs.declared.Walked.{Walked}
 use Rattle.fields.specs.Tags.{fieldFor, Tries}
-use Rattle.fields.proofs.Tags.{tries-found}
+use Rattle.fields.proofs.Tags.{longs-tried, unknown-tried, tries-found}
 use borrow.Author.Needs.{needs}
 use Rattle.fields.proofs.field_test.Statement.{statement}
 use Rattle.fields.proofs.field_test.Tie as tie
@@ -36,8 +36,20 @@ thicknesses-field-requires c κs = search needs
 wedge-field-requires : tie.Need-wedge-field-requires
 wedge-field-requires c κs = search needs
 
-no-field-requires : tie.Need-no-field-requires
-no-field-requires c κs = search needs
+mul-plain-field : tie.Need-mul-plain-field
+mul-plain-field c = search needs
+
+plain-field-requires : tie.Need-plain-field-requires
+plain-field-requires c κs = search needs
+
+mul-plain-field-2 : tie.Need-mul-plain-field-2
+mul-plain-field-2 c = search needs
+
+plain-field-requires-2 : tie.Need-plain-field-requires-2
+plain-field-requires-2 c κs = search needs
+
+plain-field-requires-3 : tie.Need-plain-field-requires-3
+plain-field-requires-3 c κs = search needs
 
 returns : tie.Need-returns
 returns c = found (c .before .before) (rw (c .before .match .keys1) (c .shape-field .ensures))
@@ -54,14 +66,28 @@ returns-4 c = found (c .before .before) (rw (c .before .match .keys4) (c .thickn
 returns-5 : tie.Need-returns-5
 returns-5 c = found (c .before .before) (rw (c .before .match .keys5) (c .wedge-field .ensures))
 
+-- tag 9; tags 6 to 8; 0, and tags above
 returns-6 : tie.Need-returns-6
 returns-6 c =
+    let T = c .plain-field .ensures in
+    found (c .before .before) (rw (c .before .match .keys6) (record { finds = T .finds; goes-on = T .goes-on }))
+
+returns-7 : tie.Need-returns-7
+returns-7 c =
+    let k = c .before .before in
+    let a = k .before .before .before .args in
+    let r = k .match .rest in
+    found (k .before)
+    (longs-tried (a .n) (a .t) _
+    (omega (arith, r .0 .0 .0 .0 .0 .0 .1, r .0 .0 .0 .0 .0 .1, r .0 .0 .0 .0 .1, r .0 .0 .0 .1, r .0 .0 .1, r .1)) (c .before .if1 .taken)
+    (c .plain-field2 .ensures))
+
+returns-8 : tie.Need-returns-8
+returns-8 c =
+    let a = c .before .before .before .before .args in
     found (c .before .before)
-    (⊎-elim (λ w. rw (w .keys6) (c .no-field .ensures))
-    (λ w.
-    let r = w .rest in
-    rw (ne-eqb _ 1 (r .0 .0 .0 .0 .0 .1), ne-eqb _ 2 (r .0 .0 .0 .0 .1), ne-eqb _ 3 (r .0 .0 .0 .1), ne-eqb _ 4 (r .0 .0 .1), ne-eqb _ 5 (r .0 .1))
-    (c .no-field .ensures))
+    (⊎-elim (λ w. rw (w .keys7) (c .plain-field3 .ensures))
+    (λ w. unknown-tried (a .n) (a .t) (c .before .before .byte-at .result) (omega (arith, w .0 .rest .0 .1, w .1 .left)) (c .plain-field3 .ensures))
     (c .before .match .came))
 
 pub field-test-spec : {M : Type 1} → statement M
@@ -74,10 +100,16 @@ field-test-spec =
     weights-field-requires
     thicknesses-field-requires
     wedge-field-requires
-    no-field-requires
+    mul-plain-field
+    plain-field-requires
+    mul-plain-field-2
+    plain-field-requires-2
+    plain-field-requires-3
     returns
     returns-2
     returns-3
     returns-4
     returns-5
-    returns-6)
+    returns-6
+    returns-7
+    returns-8)

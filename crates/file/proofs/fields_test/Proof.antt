@@ -1,4 +1,6 @@
--- `file::fields_test` meets its contract: the shape that it reads is the one that the model reads, and a byte is at most 255.
+-- `file::fields_test` meets its contract: the shape that it reads is the one that the model reads, and a byte is at most 255; the last tag of this kind of file is 5.
+use mathlib.Core.Path.{refl}
+use mathlib.Core.Logic.{inl}
 use Prim.Native.Nat.{_+_, _≤_}
 use native.Mathlib.Nat.{mul-le-mul}
 use native.Mathlib.Omega.{arith}
@@ -31,7 +33,7 @@ fields-test-requires c κs =
     let rows = columns .before in
     let rows-low : rows .byte-at .result ≤ 255 = omega arith in
     let columns-low : columns .byte-at2 .result ≤ 255 = omega arith in
-    (rw (area .area .ensures) (mul-le-mul rows-low columns-low), rw (c .ring .ensures) (mul-le-mul {n₁ = rows .byte-at .result + 2} {m₁ = columns .byte-at2 .result + 2} {n₂ = 257} {m₂ = 257} (omega arith) (omega arith)))
+    (rw (area .area .ensures) (mul-le-mul rows-low columns-low), rw (c .ring .ensures) (mul-le-mul {n₁ = rows .byte-at .result + 2} {m₁ = columns .byte-at2 .result + 2} {n₂ = 257} {m₂ = 257} (omega arith) (omega arith)), inl refl)
 
 returns : tie.Need-returns
 returns c =

@@ -39,7 +39,7 @@ loop-again c =
     let l = c .before .before in
     let e : l .before .args .at + l .loop .i ≡ l .before .args .at + length (take (l .loop .i) (now (l .before .args .bytes))) =
     ap (λ n. l .before .args .at + n) (sym (length-take-le (l .loop .i) (now (l .before .args .bytes)) (l .loop .inv .within))) in
-    put-more (c .before .loop-test .taken) refl e (l .loop .inv) refl
+    put-more 0 (c .before .loop-test .taken) refl e (l .loop .inv) refl
 
 add-result : tie.Need-add-result Inv-loop μ-loop
 add-result c = search needs

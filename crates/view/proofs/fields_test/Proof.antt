@@ -2,9 +2,9 @@
 use mathlib.Core.Path.{refl, ap, _∙_}
 use denote.Ref.{now}
 use Rattle.model.specs.Refusals.{_orElse_, checkOf}
-use Rattle.model.specs.Fields.{unexpectedAt}
-use Rattle.model.specs.File.{endOffset}
+use Rattle.model.specs.Fields.{fieldsEnd, unexpectedAt}
 use Rattle.refusals.proofs.Chain.{joined, orElse-given}
+use Rattle.view.specs.Walks.{kindOf}
 use borrow.Author.Needs.{needs}
 use Rattle.view.proofs.fields_test.Statement.{statement}
 use Rattle.view.proofs.fields_test.Tie as tie
@@ -25,7 +25,7 @@ returns c =
     let walked = w .walk .ensures in
     joined {x = checkOf (w .walk .result .tested)} (c .or-else .ensures) refl (c .before .fail-if .ensures)
     ∙ orElse-given (checkOf (w .walk .result .tested)) (λ p. ap (unexpectedAt (now (a .file))) (walked .comes p))
-    ∙ ap (λ x. x orElse unexpectedAt (now (a .file)) (endOffset (a .n) (a .t))) (walked .finds)
+    ∙ ap (λ x. x orElse unexpectedAt (now (a .file)) (fieldsEnd (kindOf (a .last) (a .n) (a .t)) 0)) (walked .finds)
 
 pub fields-test-spec : {M : Type 1} → statement M
 fields-test-spec = tie.close (tie.spec walk-requires fail-if-requires or-else-requires returns)

@@ -1,4 +1,4 @@
--- `words::put::put_weights` meets its contract: after each turn the bytes of the first i weights stand from `at` on (`Put`), two for each (`weights-front`).
+-- `words::put::put_weights` meets its contract: after each turn the bytes of the first i weights stand from `at` on (`Put`), two for each (`listed-front`).
 use denote.Ref.{now}
 use lib.ListN.{take}
 use mathlib.Core.Path.{refl}
@@ -7,7 +7,9 @@ use native.Mathlib.Omega.{arith}
 use lib.ListN.{length}
 use borrow.Author.Needs.{needs}
 use Rattle.text.proofs.Writes.{Put, put-none, put-more, put-all}
-use Rattle.words.proofs.Stores.{weights-append, weights-front}
+use Rattle.words.proofs.Stores.{listed-append, listed-front}
+use Rattle.model.specs.Bytes.{word}
+use Rattle.model.proofs.Codes.{word-code}
 use Rattle.model.specs.File.{weightBytes}
 use Rattle.words.proofs.put.put_weights.Statement.{statement}
 use Rattle.words.proofs.put.put_weights.Tie as tie
@@ -52,7 +54,7 @@ loop-again c =
     let l = c .before .before .before .before .before .before in
     let i = l .loop .i in
     let ws = now (l .before .before .before .args .weights) in
-    put-more (omega arith) (weights-append (take i ws) _) (weights-front _ i ws (l .loop .inv .within)) (l .loop .inv)
+    put-more 0 (omega arith) (listed-append word (take i ws) _) (listed-front word-code _ i ws (l .loop .inv .within)) (l .loop .inv)
     (c .before .before .put-word .ensures)
 
 same-length : tie.Need-same-length Inv-loop μ-loop

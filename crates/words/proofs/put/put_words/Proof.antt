@@ -41,7 +41,7 @@ loop-again : tie.Need-loop-again Inv-loop μ-loop
 loop-again c =
     let l = c .before .before in
     let place = length-take-le (l .loop .i) (now (l .before .args .words)) (l .loop .inv .within) in
-    put-more (c .before .loop-test .taken) refl (omega (arith, place)) (l .loop .inv) refl
+    put-more 0 (c .before .loop-test .taken) refl (omega (arith, place)) (l .loop .inv) refl
 
 same-length : tie.Need-same-length Inv-loop μ-loop
 same-length c = c .before .loop .inv .len

@@ -1,0 +1,2 @@
+-- Laws that the proofs of the functions, and other crates, share.
+pub mod Tests

@@ -1,0 +1,109 @@
+-- Document 02, W1: the file of a film that comes as coefficients: its fields, what its reader refuses and in what order, and the file of a film.
+use mathlib.Core.Path.{_≡_}
+use mathlib.Core.Bool.{Bool, true, not}
+use mathlib.Core.List.{List, [], _∷_, _++_}
+use Prim.Native.Nat.{ℕ, _+_, _*_, _<_}
+use lib.IntN.{ℤ}
+use lib.ListN.{getD}
+use Rattle.model.specs.Lists.{tabulate}
+use Rattle.model.specs.Refusals.{Check, pass, _orElse_, failIf}
+use Rattle.model.specs.Film.{Film, sizeOf}
+use Rattle.model.specs.Checks.{shapeCheck, ceilingCheck, filmFits, coefficientCheck, dominanceCheck}
+use Rattle.model.specs.Result.{Answer, answerBy}
+use Rattle.model.specs.Bytes.{byteAt, wordAt, longAt, quadAt, long, quad, signedQuad, unsignedQuad, listed}
+use Rattle.model.specs.Fields.{Field, body, fieldsEnd, bytesOf}
+use Rattle.model.specs.File.{opening, rowsOffset, columnsOffset, ceilingOffset, weightsOffset, cellsIn, fieldsCheck, weightBytes, weightsCheck}
+
+-- n numbers of so many bytes each. None is tested where it stands: 14 comes after the last field.
+abbrev pub numbersField : ℕ → ℕ → ℕ → Field
+numbersField tag width n = record { tag = tag; size = width * n; check = λ bytes at. pass }
+
+abbrev pub diagonalsField : ℕ → Field
+diagonalsField = numbersField 6 4
+
+abbrev pub rightsField : ℕ → Field
+rightsField = numbersField 7 4
+
+abbrev pub upsField : ℕ → Field
+upsField = numbersField 8 4
+
+abbrev pub sourcesField : ℕ → Field
+sourcesField = numbersField 9 8
+
+-- the fields of a film with n cells: the three that all films share, and its own four
+abbrev pub coefficientFields : ℕ → List Field
+coefficientFields n = opening n ++ (diagonalsField n ∷ rightsField n ∷ upsField n ∷ sourcesField n ∷ [])
+
+-- where its numbers stand: those of cell i at 4 × i, and its source at 8 × i, behind the first
+abbrev pub diagonalsOffset : ℕ → ℕ
+diagonalsOffset n = body (fieldsEnd (opening n) 0)
+
+abbrev pub rightsOffset : ℕ → ℕ
+rightsOffset n = body (fieldsEnd (opening n ++ (diagonalsField n ∷ [])) 0)
+
+abbrev pub upsOffset : ℕ → ℕ
+upsOffset n = body (fieldsEnd (opening n ++ (diagonalsField n ∷ rightsField n ∷ [])) 0)
+
+abbrev pub sourcesOffset : ℕ → ℕ
+sourcesOffset n = body (fieldsEnd (opening n ++ (diagonalsField n ∷ rightsField n ∷ upsField n ∷ [])) 0)
+
+abbrev pub coefficientEnd : ℕ → ℕ
+coefficientEnd n = fieldsEnd (coefficientFields n) 0
+
+-- n numbers of 4 bytes from an offset on, and of 8 bytes, signed
+abbrev pub longsAt : List ℕ → ℕ → ℕ → List ℕ
+longsAt bytes at n = tabulate n (λ i. longAt bytes (at + 4 * i))
+
+abbrev pub signedQuadsAt : List ℕ → ℕ → ℕ → List ℤ
+signedQuadsAt bytes at n = tabulate n (λ i. signedQuad (quadAt bytes (at + 8 * i)))
+
+-- the film whose numbers stand in a file
+abbrev pub filmIn : List ℕ → Film
+filmIn bytes =
+    record {
+      rows = byteAt bytes rowsOffset;
+      columns = byteAt bytes columnsOffset;
+      ceiling = longAt bytes ceilingOffset;
+      weights = tabulate (cellsIn bytes) (λ i. wordAt bytes (weightsOffset + 2 * i));
+      diagonals = longsAt bytes (diagonalsOffset (cellsIn bytes)) (cellsIn bytes);
+      rights = longsAt bytes (rightsOffset (cellsIn bytes)) (cellsIn bytes);
+      ups = longsAt bytes (upsOffset (cellsIn bytes)) (cellsIn bytes);
+      sources = signedQuadsAt bytes (sourcesOffset (cellsIn bytes)) (cellsIn bytes);
+    }
+
+-- the fields of the film whose shape stands in a file, and nothing behind them; then 14; then 9
+unfoldable pub coefficientFileCheck : List ℕ → Check
+coefficientFileCheck bytes =
+    fieldsCheck (coefficientFields (cellsIn bytes)) bytes orElse coefficientCheck (filmIn bytes) orElse dominanceCheck (filmIn bytes)
+
+-- a coefficient film file is accepted, and its film is the one that stands in it; or it is refused with a number and a place
+abbrev pub readCoefficients : List ℕ → Answer Film
+readCoefficients bytes = answerBy (coefficientFileCheck bytes) (filmIn bytes)
+
+-- the file of a film: its fields with these bodies
+abbrev pub sourceBytes : ℤ → List ℕ
+sourceBytes z = quad (unsignedQuad z)
+
+abbrev pub coefficientBodies : Film → List (List ℕ)
+coefficientBodies f =
+    (f .rows ∷ f .columns ∷ []) ∷ long (f .ceiling) ∷ weightBytes (f .weights) ∷ listed long (f .diagonals) ∷ listed long (f .rights)
+    ∷ listed long (f .ups)
+    ∷ listed sourceBytes (f .sources)
+    ∷ []
+
+unfoldable pub coefficientFileOf : Film → List ℕ
+coefficientFileOf f = bytesOf (coefficientFields (sizeOf f)) (coefficientBodies f)
+
+-- the writer's tests: 4, 10, 5 and 6 at the offsets that the numbers get in the file, then 14 and 9 at cells. `fits` says whether all
+-- slices have their lengths
+unfoldable pub writerCheck : Film → Bool → Check
+writerCheck f fits =
+    shapeCheck (f .rows) rowsOffset (f .columns) columnsOffset orElse failIf (not fits) 10 0 orElse ceilingCheck (f .ceiling) ceilingOffset
+    orElse weightsCheck (f .weights) (sizeOf f)
+    orElse coefficientCheck f
+    orElse dominanceCheck f
+
+-- What types and lengths say of a film as the writer takes it: it has a number of each list for each cell, and a weight has 16 bits.
+pub record CoefficientValues (f : Film) : Type 0 where
+  pub fits : filmFits f ≡ true
+  pub weight-word : (i : ℕ) → getD (f .weights) i 0 < 65536
