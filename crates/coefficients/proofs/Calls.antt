@@ -47,11 +47,6 @@ module _ (h : Head) (weights thicknesses : List ℕ) (wedge : ℤ) (diagonals ri
       → r ≡ formCheck g diagonals rights ups sources
   form-tested n w e = (rw (n, w) at e) ∙ ap (gaugeCheck g) (simp and-assoc)
 
-  -- and what was formed
-  pub wedge-formed : {w : ℤ} {diagonals′ rights′ ups′ : List ℕ} {sources′ : List ℤ} → w ≡ wedge
-      → Forming (gaugeOf h [] thicknesses w) diagonals′ rights′ ups′ sources′ → Forming (gaugeOf h [] thicknesses wedge) diagonals′ rights′ ups′ sources′
-  wedge-formed w f = rw w at f
-
   record Lengths : Type 0 where
     diagonals-len : length diagonals ≡ cells (g .rows) (g .columns)
     rights-len : length rights ≡ cells (g .rows) (g .columns)

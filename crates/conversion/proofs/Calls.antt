@@ -5,6 +5,7 @@ use mathlib.Core.List.{List}
 use Prim.Native.Nat.{ℕ}
 use borrow.Author.Tests.{eqb-true}
 use lib.Dec.{eqb}
+use lib.IntN.{ℤ}
 use lib.ListN.{length}
 use Rattle.model.specs.Refusals.{Check, pass, fail}
 use Rattle.model.specs.Gauge.{Gauge}
@@ -12,9 +13,10 @@ use Rattle.model.specs.Coefficients.{formed}
 use Rattle.model.specs.Checks.{shapeCheck}
 use Rattle.model.specs.Result.{answered, refused, Gives}
 use Rattle.model.specs.File.{cells, rowsOffset, columnsOffset, gaugeCheck}
-use Rattle.model.specs.FileCalls.{gaugeFits}
+use Rattle.model.specs.FileCalls.{gaugeOf, gaugeFits}
 use Rattle.model.specs.CoefficientFile.{coefficientEnd, coefficientFileOf}
 use Rattle.model.specs.CoefficientCalls.{convertCheck, convertCall}
+use Rattle.model.specs.declared.Head.{Head}
 use Rattle.model.proofs.File.{gauge-shape}
 use Rattle.model.proofs.Lists.{tabulate-length}
 use Rattle.refusals.proofs.Chain.{orElse-given}
@@ -23,15 +25,20 @@ use Rattle.gauge.proofs.Tests.{gauge-measured}
 use Rattle.coefficient_writing.specs.Writable.{coefficientLength, Writable}
 use Rattle.coefficient_writing.proofs.Film.{length-known}
 
-module _ (g : Gauge) (out : List ℕ) where
-  -- where the shape has passed, the length that was asked for is that of the film's file
-  pub convert-fits : {r : Check} → r ≡ gaugeCheck g (gaugeFits g && eqb (length out) (coefficientLength (g .rows) (g .columns))) → r ≡ convertCheck g out
-  unfolding gaugeCheck
-  convert-fits r =
-      r
-      ∙ orElse-given (shapeCheck (g .rows) rowsOffset (g .columns) columnsOffset)
-      (λ e. let s = gauge-shape g e in rw (length-known (g .rows) (g .columns) (s .rows-low) (s .columns-low)))
+-- the tests, from what they found of the numbers as the code has them: where the shape has passed, the length that was asked for is that of the film's
+-- file
+pub convert-tested : (h : Head) (weights thicknesses : List ℕ) (wedge : ℤ) (out : List ℕ) {r : Check} {n : ℕ} {w : ℤ} → n ≡ coefficientLength (h .rows) (h .columns)
+    → w ≡ wedge
+    → r ≡ gaugeCheck (gaugeOf h weights thicknesses w) (gaugeFits (gaugeOf h weights thicknesses w) && eqb (length out) n)
+    → r ≡ convertCheck (gaugeOf h weights thicknesses wedge) out
+unfolding gaugeCheck
+convert-tested h weights thicknesses wedge out n w e =
+    let g = gaugeOf h weights thicknesses wedge in
+    (rw (n, w) at e)
+    ∙ orElse-given (shapeCheck (g .rows) rowsOffset (g .columns) columnsOffset)
+    (λ e. let s = gauge-shape g e in rw (length-known (g .rows) (g .columns) (s .rows-low) (s .columns-low)))
 
+module _ (g : Gauge) (out : List ℕ) where
   -- what passes can be formed, and its file fills the slice
   pub convert-ready : convertCheck g out ≡ pass → Measured g × (length out ≡ coefficientEnd (cells (g .rows) (g .columns)))
   convert-ready e =

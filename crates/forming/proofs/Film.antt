@@ -10,6 +10,11 @@ use Rattle.model.specs.FileCalls.{gaugeOf}
 use Rattle.model.specs.declared.Head.{Head}
 use Rattle.forming.specs.Cell.{Forming}
 
+-- what was formed, from the wedge number as the code has it
+pub wedge-formed : (h : Head) (t : List ℕ) {w wedge : ℤ} {diagonals rights ups : List ℕ} {sources : List ℤ} → w ≡ wedge
+    → Forming (gaugeOf h [] t w) diagonals rights ups sources → Forming (gaugeOf h [] t wedge) diagonals rights ups sources
+wedge-formed h t e b = rw e at b
+
 -- coefficients at the start of four slices, with the film's weights, are the formed film
 pub film-formed : (h : Head) (w t : List ℕ) (wedge : ℤ) {diagonals rights ups : List ℕ} {sources : List ℤ} → length w ≡ h .rows * h .columns
     → Forming (gaugeOf h [] t wedge) diagonals rights ups sources

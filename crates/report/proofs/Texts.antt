@@ -1,61 +1,38 @@
--- The film that a report's formed coefficients are, and the report of a file, from what the reader answered.
-use mathlib.Core.Path.{_≡_, refl, ap, _∙_}
-use mathlib.Core.Bool.{true}
-use mathlib.Core.List.{List, [], _∷_}
-use Prim.Native.Nat.{ℕ, zero, suc, _*_, _≤_, _<_}
-use native.Mathlib.Nat.{le-of-suc-le-suc}
+-- The report of a file by the tag behind its weights, and the call that writes it, by what its test finds.
+use mathlib.Core.Path.{_≡_, ap, ap₂, _∙_}
+use mathlib.Core.Bool.{Bool, true, false, cond}
+use mathlib.Core.List.{List}
+use Prim.Native.Nat.{ℕ, _+_, _*_, _≤_, _<_}
 use native.Mathlib.Omega.{arith}
 use borrow.Author.Tests.{lt-ltb, le-ltb}
-use lib.IntN.{ℤ}
-use lib.ListN.{length, take, replicate}
-use Rattle.model.specs.Refusals.{pass}
-use Rattle.model.specs.Film.{filmOf}
-use Rattle.model.specs.Coefficients.{formed}
+use lib.Dec.{eqb}
+use lib.ListN.{length}
 use Rattle.model.specs.Result.{answered, refused, Gives}
-use Rattle.model.specs.Gauge.{Gauge}
-use Rattle.model.specs.File.{gaugeCheck, Bytes, Values}
-use Rattle.model.specs.FileCalls.{gaugeOf, film, Loads, used}
-use Rattle.model.specs.Report.{refusedLine, filmReport, reportBy, reportOf}
+use Rattle.model.specs.Bytes.{byteAt}
+use Rattle.model.specs.File.{rowsOffset, columnsOffset, readFilm, Bytes}
+use Rattle.model.specs.CoefficientFile.{readCoefficients}
+use Rattle.model.specs.EitherFile.{tagged06, formedBy}
+use Rattle.model.specs.Report.{reportBy, reportOf}
 use Rattle.model.specs.ReportCall.{longestReport, reportCall}
-use Rattle.model.specs.declared.Head.{Head}
-use Rattle.model.proofs.File.{read-values}
 use Rattle.model.proofs.Report.{report-fits}
-use Rattle.model.proofs.Inverse.{read-film, read-refusal}
-use Rattle.forming.specs.Cell.{Forming}
 use Rattle.text.specs.Writes.{Fits, Writes}
 use Rattle.text.proofs.Writes.{sets-front}
 
--- coefficients at the start of four slices, with the film's weights, are the formed film
-pub film-formed : (h : Head) (w t : List ℕ) (wedge : ℤ) {diagonals rights ups : List ℕ} {sources : List ℤ} → length w ≡ h .rows * h .columns
-    → Forming (gaugeOf h [] t wedge) diagonals rights ups sources
-    → filmOf h w (take (length w) diagonals) (take (length w) rights) (take (length w) ups) (take (length w) sources) ≡ formed (gaugeOf h w t wedge)
-film-formed h w t wedge e b = rw (e, b .diagonals-are, b .rights-are, b .ups-are, b .sources-are)
+module _ (bytes : List ℕ) where
+  -- the tag, by the shape that stands in the file
+  pub tag-read : {tag n rows columns : ℕ} → rows ≡ byteAt bytes rowsOffset → columns ≡ byteAt bytes columnsOffset → n ≡ rows * columns
+      → tag ≡ byteAt bytes (15 + 2 * n) → eqb tag 6 ≡ tagged06 bytes
+  tag-read r c e t = ap (λ x. eqb x 6) (t ∙ ap (λ (m : ℕ). byteAt bytes (15 + 2 * m)) (e ∙ ap₂ _*_ r c))
 
--- the start of a field of zeros
-pub take-zeros : (n m : ℕ) {k : ℕ} → n ≤ m → n ≡ k → take {A = ℕ} n (replicate m 0) ≡ replicate k 0
-take-zeros n m h e = front n m h ∙ ap (λ (k : ℕ). replicate {A = ℕ} k 0) e
-  where
-    front : (n m : ℕ) → n ≤ m → take {A = ℕ} n (replicate m 0) ≡ replicate n 0
-    front zero m h = refl
-    front (suc n) zero h = absurd (omega arith)
-    front (suc n) (suc m) h = ap (λ (l : List ℕ). 0 ∷ l) (front n m (le-of-suc-le-suc h))
+  -- the report of the film that the reader so chosen reads
+  chosen : (b : Bool) → tagged06 bytes ≡ b → reportOf bytes ≡ reportBy (cond b (readCoefficients bytes) (formedBy (readFilm bytes)))
+  chosen b e = ap (λ (x : Bool). reportBy (cond x (readCoefficients bytes) (formedBy (readFilm bytes)))) e
 
--- What the reader answered, and so the report: of the film that it has read, ..
-pub record Read (bytes : List ℕ) (g : Gauge) : Type 0 where
-  pub values : Values g
-  pub passes : gaugeCheck g true ≡ pass
-  pub text : reportOf bytes ≡ filmReport (formed g)
+  pub by-coefficients : tagged06 bytes ≡ true → reportOf bytes ≡ reportBy (readCoefficients bytes)
+  by-coefficients = chosen true
 
-pub read-report : {bytes w t w′ t′ : List ℕ} {h : Head} {wedge : ℤ} → Bytes bytes → Loads bytes w t (answered (film h wedge)) w′ t′ → Read bytes (used h wedge w′ t′)
-read-report {bytes} {w} {t} {w′} {t′} {h} {wedge} B L =
-    let reads = read-film bytes w t w′ t′ h wedge B L in
-    let v = read-values bytes (used h wedge w′ t′) B reads in
-    record { values = v .0; passes = v .1; text = ap reportBy reads }
-
--- .. or of its refusal
-pub refusal-report : {bytes w t w′ t′ : List ℕ} {number place : ℕ} → length w ≡ 1024 → length t ≡ 1156
-    → Loads bytes w t (refused number place) w′ t′ → reportOf bytes ≡ refusedLine number place
-refusal-report {bytes} {w} {t} {w′} {t′} {number} {place} n m L = ap reportBy (read-refusal bytes w t w′ t′ number place n m L)
+  pub by-gauge : tagged06 bytes ≡ false → reportOf bytes ≡ reportBy (formedBy (readFilm bytes))
+  by-gauge = chosen false
 
 -- the call, by what its test of the buffer finds
 module _ (bytes out : List ℕ) where

@@ -4,7 +4,8 @@ use denote.Ref.{now}
 use mir.Facts.{toZ-ofZ}
 use Rattle.model.specs.Refusals.{Check, checkOf}
 use Rattle.model.specs.FileCalls.{gaugeOf, formCheck}
-use Rattle.coefficients.proofs.Calls.{form-tested, wedge-formed, form-ready, form-written, form-refused}
+use Rattle.forming.proofs.Film.{wedge-formed}
+use Rattle.coefficients.proofs.Calls.{form-tested, form-ready, form-written, form-refused}
 use borrow.Author.Needs.{needs}
 use Rattle.coefficients.proofs.form.Statement.{statement}
 use Rattle.coefficients.proofs.form.Tie as tie
@@ -61,7 +62,7 @@ returns c =
     let a = s .args in
     let e = sym (tested t) ∙ ap checkOf (f .before .before .before .before .before .enum-told .given .1) in
     form-written (a .head) (now (a .weights)) (now (a .thicknesses)) (a .wedge) (now (a .diagonals)) (now (a .rights)) (now (a .ups)) (now (a .sources)) e
-    (wedge-formed (a .head) (now (a .weights)) (now (a .thicknesses)) (a .wedge) (now (a .diagonals)) (now (a .rights)) (now (a .ups)) (now (a .sources)) (toZ-ofZ (s .fits .wedge)) (f .form .ensures)) (
+    (wedge-formed (a .head) (now (a .thicknesses)) (toZ-ofZ (s .fits .wedge)) (f .form .ensures)) (
     record {
       diagonals-kept = f .form .kept .1 .1 .1 .0;
       rights-kept = f .form .kept .1 .1 .1 .1 .0;

@@ -1,5 +1,5 @@
--- `conversion::convert` meets its contract: the length that it asks for is the file's where the shape has passed (`convert-fits`), and of what
--- passes the formed film's file is written.
+-- `conversion::convert` meets its contract: its tests are the model's (`convert-tested`), of what passes them the formed film's file is written,
+-- and a refusal leaves the slice as it was.
 use mathlib.Core.Path.{_≡_, sym, ap, _∙_}
 use denote.Ref.{now}
 use mir.Facts.{toZ-ofZ}
@@ -8,7 +8,7 @@ use Rattle.model.specs.Gauge.{Gauge}
 use Rattle.model.specs.FileCalls.{gaugeOf}
 use Rattle.model.specs.CoefficientCalls.{convertCheck}
 use Rattle.refusals.proofs.Chain.{passed}
-use Rattle.conversion.proofs.Calls.{convert-fits, convert-ready, convert-passed, convert-refused}
+use Rattle.conversion.proofs.Calls.{convert-tested, convert-ready, convert-passed, convert-refused}
 use borrow.Author.Needs.{needs}
 use Rattle.conversion.proofs.convert.Statement.{statement}
 use Rattle.conversion.proofs.convert.Tie as tie
@@ -21,7 +21,8 @@ tested : (c : tie.After-gauge-tests) → let s = c .before .before .before .befo
     checkOf (c .gauge-tests .result) ≡ convertCheck (film s) (now (s .args .out))
 tested c =
     let s = c .before .before .before .before .before in
-    convert-fits (film s) (now (s .args .out)) (rw (toZ-ofZ (s .fits .wedge), c .before .file-length .ensures) at (c .gauge-tests .ensures))
+    let a = s .args in
+    convert-tested (a .head) (now (a .weights)) (now (a .thicknesses)) (a .wedge) (now (a .out)) (c .before .file-length .ensures) (toZ-ofZ (s .fits .wedge)) (c .gauge-tests .ensures)
 
 file-length-requires : tie.Need-file-length-requires
 file-length-requires c κs = search needs

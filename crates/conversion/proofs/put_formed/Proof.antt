@@ -13,7 +13,7 @@ use Rattle.model.specs.Coefficients.{formed}
 use Rattle.model.specs.FileCalls.{gaugeOf}
 use Rattle.model.specs.CoefficientFile.{coefficientFileOf}
 use Rattle.gauge.proofs.Tests.{measured-ringed, weights-low}
-use Rattle.forming.proofs.Film.{film-formed}
+use Rattle.forming.proofs.Film.{wedge-formed, film-formed}
 use Rattle.coefficient_writing.specs.Writable.{Writable}
 use Rattle.conversion.proofs.Calls.{formed-writable}
 use borrow.Author.Needs.{needs}
@@ -47,7 +47,9 @@ film f =
 film-is : (f : tie.After-form) → film f ≡ formed (gauge (start f))
 film-is f =
     let s = start f in
-    film-formed (s .args .head) (now (s .args .weights)) (now (s .args .thicknesses)) (s .args .wedge) (s .pre .0 .weights-len) (rw (toZ-ofZ (s .fits .wedge)) at (f .form .ensures))
+    let a = s .args in
+    film-formed (a .head) (now (a .weights)) (now (a .thicknesses)) (a .wedge) (s .pre .0 .weights-len)
+    (wedge-formed (a .head) (now (a .thicknesses)) (toZ-ofZ (s .fits .wedge)) (f .form .ensures))
 
 slice-aggregate-form : tie.Need-slice-aggregate-form
 slice-aggregate-form c = search needs

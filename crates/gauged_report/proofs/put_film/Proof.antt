@@ -1,4 +1,4 @@
--- `report::put_film` meets its contract: the coefficients are formed at the starts of buffers that hold any film's, and with the weights they are the
+-- `gauged_report::put_film` meets its contract: the coefficients are formed at the starts of buffers that hold any film's, and with the weights they are the
 -- formed film, which its tests have accepted.
 use mathlib.Core.Path.{_≡_, sym, subst}
 use Prim.Native.Nat.{_≤_}
@@ -17,10 +17,11 @@ use Rattle.model.proofs.File.{gauge-passes, gauge-shape}
 use Rattle.model.proofs.Forming.{formed-accepted}
 use Rattle.grid.proofs.Limited.{size-low}
 use Rattle.text.specs.Writes.{Fits, Writes}
-use Rattle.report.proofs.Texts.{film-formed, take-zeros}
+use Rattle.forming.proofs.Film.{film-formed}
+use Rattle.film_text.proofs.Zeros.{take-zeros}
 use borrow.Author.Needs.{needs}
-use Rattle.report.proofs.put_film.Statement.{statement}
-use Rattle.report.proofs.put_film.Tie as tie
+use Rattle.gauged_report.proofs.put_film.Statement.{statement}
+use Rattle.gauged_report.proofs.put_film.Tie as tie
 
 abbrev gauge : tie.Start → Gauge
 gauge s = gaugeOf (s .args .head) (now (s .args .weights)) (now (s .args .thicknesses)) (s .args .wedge)
