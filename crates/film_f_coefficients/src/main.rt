@@ -1,10 +1,9 @@
 // Plays film F as a coefficient film (document 02, W1) through the public calls, and prints what they answer: the converter's file, what the
-// reader lays over its buffers, the file written back, a run on what was read, and refusals. The file `stdout` beside src/ was written from the
+// reader lays over its buffers, the file written back, and refusals. The file `stdout` beside src/ was written from the
 // documents by hand.
 use libc::STDOUT_FILENO;
 use model::Head;
 use model::LoadedCoefficients;
-use model::Ran;
 use model::Refusal;
 use model::Saved;
 
@@ -189,7 +188,7 @@ fn read_short(file: &[u8]) {
     );
 }
 
-// The writer, with that first weight and that first diagonal, and a run on the same film.
+// The writer, with that first weight and that first diagonal.
 fn write(weight: u16, diagonal: u32, out: &mut [u8]) {
     let weights = [weight, 1];
     let diagonals = [diagonal, 51];
@@ -207,48 +206,6 @@ fn write(weight: u16, diagonal: u32, out: &mut [u8]) {
     octets(&out[..]);
 }
 
-fn ran(answer: Ran) {
-    match answer {
-        Ran::Done(c) => {
-            text(b"DONE");
-            wide(c.visits);
-            wide(c.raises);
-        }
-        Ran::Stopped(_) => text(b"STOPPED"),
-        Ran::Over(_, _) => text(b"OVER"),
-        Ran::Refused(r) => refused(r),
-    }
-}
-
-// A run on what was read of film F's file.
-fn play(file: &[u8]) {
-    let mut w = [0u16; 1024];
-    let mut d = [0u32; 1024];
-    let mut r = [0u32; 1024];
-    let mut u = [0u32; 1024];
-    let mut s = [0i64; 1024];
-    text(b"RUN");
-    loaded(coefficient_file::read(file, &mut w, &mut d, &mut r, &mut u, &mut s));
-    let mut field = [0u32; 2];
-    text(b" ");
-    ran(run::run(
-        HEAD,
-        &[w[0], w[1]],
-        &[d[0], d[1]],
-        &[r[0], r[1]],
-        &[u[0], u[1]],
-        &[s[0], s[1]],
-        &mut field,
-        4000000,
-        0,
-        false,
-    ));
-    text(b" :");
-    wide(field[0]);
-    wide(field[1]);
-    text(b"\n");
-}
-
 // The file without its last byte.
 fn read_cut(file: &[u8]) {
     let n = file.len();
@@ -262,7 +219,6 @@ fn main() {
     let mut file = [0u8; 71];
     convert(3, &mut file);
     read(&file);
-    play(&file);
     read_short(&file);
     read_cut(&file);
     let mut other = file;

@@ -50,8 +50,8 @@ pub fn read_coefficients(answer: LoadedCoefficients, head: &mut [u32; 3], place:
     ensures { λ r. ⌜ HeadTold (coefficientsAnswerOf answer) (now (head .entry)) (now (place .entry)) r (now (head .exit)) (now (place .exit)) ⌝ }
 {
     match answer {
-        LoadedCoefficients::Film(h) => {
-            *head = [h.rows, h.columns, h.ceiling];
+        LoadedCoefficients::Film(film) => {
+            *head = [film.rows, film.columns, film.ceiling];
             0
         }
         LoadedCoefficients::Refused(r) => told::refused(r, place),
