@@ -1,5 +1,5 @@
 // Refusal 9, of films given by coefficients: the weighted row sum of each cell, row by row, which shows that the matrix is Minkowski.
-// Internal: crate `checks` calls it where the coefficients are within their limits. Crate `row_sums` has that test for thicknesses.
+// Internal: crates `checks` and `coefficient_tests` call it where the coefficients are within their limits. Crate `row_sums` has that test for thicknesses.
 ghost use mathlib.Core.Path.{_≡_};
 ghost use mathlib.Core.Bool.{cond};
 ghost use Prim.Native.Nat.{_+_, _-_, _*_, _≤_, _<_};

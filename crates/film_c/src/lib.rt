@@ -1,5 +1,5 @@
 // Film for C and Rust: the public calls from a film's file to its runs and its report, as C functions on numbers and lent slices; crate
-// `film_c_steps` has those for a cell or a line. include/film.h documents them for their caller. Each returns 0 if the call answered, else the
+// `film_c_steps` has those for a cell or a line, `film_c_coefficients` those on coefficient films. include/film.h documents them for their caller. Each returns 0 if the call answered, else the
 // number of its refusal. A refusal writes its place and changes nothing else; an answer leaves the place as it was.
 //
 // A film's shape and ceiling travel as one head, lent as an array of numbers: what a later film has beside them joins the array, and no call

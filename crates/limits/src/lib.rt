@@ -1,5 +1,5 @@
 // Refusal 14, of films given by coefficients: each cell's diagonal, links and source within their limits, and no link that leaves the
-// grid. Internal: crate `checks` calls it where shape and lengths have passed. That sums fit, and that a cell's neighbours are found by
+// grid. Internal: crates `checks` and `coefficient_tests` call it where shape and lengths have passed. That sums fit, and that a cell's neighbours are found by
 // index alone, rests on it in all later crates.
 ghost use mathlib.Core.Path.{_≡_};
 ghost use mathlib.Core.Bool.{_&&_};

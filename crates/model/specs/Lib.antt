@@ -1,4 +1,4 @@
--- Document 01's definitions, section by section in its order: the one list of them. What a run, a relaxation and the order on fields are is
+-- Document 01's definitions, section by section in its order, and document 02's where they belong: the one list of them. What a run, a relaxation and the order on fields are is
 -- in specs/ of crate `monotone` (Field, Rule, Ordering, Sweep, Links, Linear, History), a refusal's number in that of crate `fault`.
 
 -- numbers and lists, and what a call gives

@@ -1,5 +1,5 @@
 // The numbers of a film file whose fields have passed their tests: 9 is tested, and then they are written into the lent buffers. Internal: the
-// reader calls `read_fields`.
+// reader calls `read_fields`; that of coefficient films takes head and weights from here.
 //
 // Proved: answer and lent buffers are those of crate `model`, by what the test of 9 finds (`LoadsBy`).
 ghost use mathlib.Core.Path.{_≡_};

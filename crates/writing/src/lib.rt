@@ -1,5 +1,5 @@
 // The film file's fields as the writer puts them into a lent slice, one behind the other, and the length of the whole file. Internal: the
-// writer calls it once its tests have passed, so it asks for room.
+// writer calls it once its tests have passed, so it asks for room; that of coefficient films takes the first three fields from here.
 //
 // Proved: each field's bytes are those that crate `model` gives it (`field`), written at its offset and nowhere else; the five fill the slice
 // and are the film's file (`fileOf`).
