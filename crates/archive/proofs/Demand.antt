@@ -17,7 +17,7 @@ use Rattle.model.specs.Run.{RunAnswer, run, runCheck, runCall}
 use Rattle.model.specs.Demand.{ran, proposed, Kept, Claimed}
 use Rattle.model.specs.CoefficientFile.{filmIn}
 use Rattle.model.specs.CoefficientCalls.{filmHead, coefficientLoadCheck, LoadsCoefficients}
-use Rattle.model.specs.Session.{Session, gauged, coefficients}
+use Rattle.model.specs.Session.{Session, fromGauge, fromCoefficients}
 use Rattle.model.proofs.Numbered.{run-numbered, row-numbered, load-numbered, coefficient-load-numbered}
 use Rattle.model.proofs.Session.{demand-3-calls}
 use Rattle.told.specs.Refused.{numberIn}
@@ -81,7 +81,7 @@ module _ {bytes weights thicknesses head weights′ thicknesses′ head′ : Lis
       (F : FormTold (used (lentHead head′) wedge′ weights′ thicknesses′) diagonals rights ups sources at number diagonals′ rights′ ups′ sources′ at′) where
     pub session-told : Session bytes (lentFilm head′ weights′ diagonals′ rights′ ups′ sources′)
     session-told =
-        gauged (record {
+        fromGauge (record {
           head = lentHead head′;
           wedge = wedge′;
           weights = weights;
@@ -127,7 +127,7 @@ module _ {bytes weights diagonals rights ups head weights′ diagonals′ rights
   pub coefficients-session : Session bytes (lentCoefficients head′ weights′ diagonals′ rights′ ups′ sources′)
   coefficients-session =
       let e = coefficients-answered ∙ coefficients-head (subst (λ a. HeadTold a head place 0 head′ place′) coefficients-answered (R .told)) in
-      coefficients (record {
+      fromCoefficients (record {
         head = lentHead head′;
         weights = weights;
         diagonals = diagonals;

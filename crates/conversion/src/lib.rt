@@ -1,4 +1,4 @@
-// The converter (document 02, W1): from a thickness film's numbers to the bytes of the coefficient film of the same problem. It asks nothing of
+// The converter (document 02, W1): from a gauged film's numbers to the bytes of the coefficient film of the same problem. It asks nothing of
 // its caller: it tests its input first, as the call that forms coefficients does, and a refused call changes nothing.
 //
 // Proved: the whole answer, and the lent slice, are those of crate `model` (convertCall). Its proofs/CoefficientFile: these bytes read as the film
@@ -46,7 +46,7 @@ fn put_formed(head: Head, weights: &[u16], thicknesses: &[u8], wedge: i32, out: 
     );
 }
 
-// Writes the coefficient film's file of a thickness film's numbers into a lent slice of exactly its length.
+// Writes the coefficient film's file of a gauged film's numbers into a lent slice of exactly its length.
 pub fn convert(head: Head, weights: &[u16], thicknesses: &[u8], wedge: i32, out: &mut [u8]) -> Saved
     ensures { λ r. ⌜ Gives (convertCall (gaugeOf head (now (weights .entry)) (now (thicknesses .entry)) wedge) (now (out .entry))) (saveAnswerOf r) (now (out .exit)) ⌝ }
 {

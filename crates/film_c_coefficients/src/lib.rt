@@ -49,7 +49,7 @@ pub extern "C" fn film_write_coefficients(
     tell_files::write(answer, place)
 }
 
-// Writes the coefficient film's file of a thickness film.
+// Writes the coefficient film's file of a gauged film.
 #[no_mangle]
 pub extern "C" fn film_convert(
     head: &[u32; 3],

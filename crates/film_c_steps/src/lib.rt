@@ -1,5 +1,5 @@
-// Film for C and Rust: the public calls for a cell or a line of a film as coefficients, as C functions. As in crate `film_c`, which has runs and the
-// calls on files: the returned number is 0 or the refusal's, and a film's shape and ceiling travel as one head.
+// Film for C and Rust: the public calls for a cell or a line of a film as coefficients, as C functions. As in crate `film_c`, which has runs and
+// files: the returned number is 0 or the refusal's, and a film's shape and ceiling travel as one head.
 //
 // Proved: the returned number, and what each lent number, array and slice holds at exit, are those that crate `model` gives the call
 // (slackCall, proposeCall, ..), told as specs/ of crates `tell` and `told` say. As the calls themselves, they ask nothing of their caller.

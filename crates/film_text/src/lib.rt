@@ -1,4 +1,4 @@
-// The report's text of an accepted film: its head, one run on a field of zeros, and what the run answered. Internal: `report` calls it.
+// The report's text of an accepted film: its head, one run on a field of zeros, and what the run answered. Internal: `gauged_report` and `coefficient_report` call it.
 //
 // Proved: the text is that of crate `model` (filmReport), byte for byte.
 ghost use mathlib.Core.Path.{_≡_};

@@ -1,4 +1,4 @@
--- The report of a file, from what the thickness reader answered.
+-- The report of a file, from what the reader of gauged films answered.
 use mathlib.Core.Path.{_≡_, ap}
 use mathlib.Core.Bool.{true}
 use mathlib.Core.List.{List}

@@ -1,4 +1,4 @@
-// The report of a file that the thickness reader reads: of the film that its numbers form, or of its refusal. Internal: `report` calls it where
+// The report of a file that the reader of gauged films reads: of the film that its numbers form, or of its refusal. Internal: `report` calls it where
 // the tag behind the weights is not 06.
 //
 // Proved: the text is that of crate `model` for what the reader answers (`reportBy`), byte for byte.

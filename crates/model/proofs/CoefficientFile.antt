@@ -362,7 +362,7 @@ coefficients-accepted bytes f e =
 
 -- ---- what is converted
 
--- a thickness film's numbers that pass their tests form a film that passes the writer's
+-- a gauged film's numbers that pass their tests form a film that passes the writer's
 formed-writes : (g : Gauge) → Values g → gaugeCheck g true ≡ pass → Writes (formed g)
 formed-writes g v e = record { accepted = formed-accepted g v e; word = λ i h. v .weight-word i }
 

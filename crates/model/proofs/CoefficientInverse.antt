@@ -116,7 +116,7 @@ coefficients-read-write bytes weights diagonals rights ups sources {weights′} 
     let saved : coefficientSaveCheck f out ≡ pass = rw (values .0 .fits, eq-eqb _ _ room) (values .1) in
     (rw saved at (s .answer-is), (rw saved at (s .lent-is)) ∙ whole)
 
--- Read by the thickness reader, then converted: the converter does not refuse it, and its file has the same film.
+-- Read by the reader of gauged films, then converted: the converter does not refuse it, and its file has the same film.
 pub read-convert : (bytes weights thicknesses weights′ thicknesses′ out out′ : List ℕ) (h : Head) (wedge : ℤ) (answer : Answer (Unit {0})) → Bytes bytes
     → Loads bytes weights thicknesses (answered (film h wedge)) weights′ thicknesses′
     → length out ≡ coefficientEnd (cells (h .rows) (h .columns))

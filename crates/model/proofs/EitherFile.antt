@@ -1,5 +1,5 @@
 -- A film file of either kind (document 02, W1): an accepted one is of one kind alone, its film is accepted by every call, and a converted
--- thickness film is the same film.
+-- gauged film is the same film.
 use mathlib.Core.Path.{_≡_, refl, sym, ap, _∙_, subst}
 use mathlib.Core.Bool.{Bool, true, false, cond}
 use mathlib.Core.List.{List, [], _∷_}
@@ -55,7 +55,7 @@ shape-refused bytes number place e =
     go true r = r .1
     go false r = ap formedBy (r .0)
 
--- The thickness reader refuses a coefficient film with 2 at tag 06, and the other way round.
+-- The reader of gauged films refuses a coefficient film with 2 at tag 06, and the other way round.
 pub coefficients-not-gauged : (bytes : List ℕ) (f : Film) → readCoefficients bytes ≡ answered f
     → readFilm bytes ≡ refused 2 (fieldsEnd (opening (cellsIn bytes)) 0)
 coefficients-not-gauged bytes f e =
@@ -107,7 +107,7 @@ file-film bytes f B e = accepted-passes f (either-accepted bytes f B e)
 
 -- ---- what is converted
 
--- A thickness film's file and the converter's file of it have the same film: so every list of runs and proposals, and the report, are the same.
+-- A gauged film's file and the converter's file of it have the same film: so every list of runs and proposals, and the report, are the same.
 pub converted-same : (bytes : List ℕ) (g : Gauge) → Bytes bytes → readFilm bytes ≡ answered g
     → readEither (coefficientFileOf (formed g)) ≡ readEither bytes
 converted-same bytes g B e =

@@ -19,7 +19,7 @@ use Rattle.model.specs.CoefficientFile.{filmIn, coefficientFileCheck, re
 use Rattle.model.specs.CoefficientCalls.{filmHead, coefficientLoadCheck, LoadsCoefficients}
 use Rattle.model.specs.EitherFile.{readEither}
 use Rattle.model.specs.Demand.{Step, exitOf, verdictOf, zeroField, History, Claimed}
-use Rattle.model.specs.Session.{GaugedSession, CoefficientSession, Session, gauged, coefficients}
+use Rattle.model.specs.Session.{GaugedSession, CoefficientSession, Session, fromGauge, fromCoefficients}
 use Rattle.model.proofs.File.{read-values}
 use Rattle.model.proofs.Inverse.{answer-passed, read-film}
 use Rattle.model.proofs.EitherFile.{gauged-either, coefficients-either, Kind, byGauge, byCoefficients, kind-of}
@@ -34,7 +34,7 @@ form-passes g diagonals rights ups sources v d r u s =
     rw (eq-eqb _ _ (v .0 .weights-len), eq-eqb _ _ (v .0 .thicknesses-len), eq-eqb _ _ d, eq-eqb _ _ r, eq-eqb _ _ u, eq-eqb _ _ s) (v .1)
 
 module _ (bytes : List ℕ) (B : Bytes bytes) where
-  -- ---- a thickness film
+  -- ---- a gauged film
   module _ {f : Film} (S : GaugedSession bytes f) where
     -- the film's numbers, as the reader laid them over its buffers
     abbrev numbers : Gauge
@@ -65,8 +65,8 @@ module _ (bytes : List ℕ) (B : Bytes bytes) where
   -- ---- either kind: what runs and proposals are lent is the file's film, ..
 
   pub session-film : {f : Film} → Session bytes f → readEither bytes ≡ answered f
-  session-film (gauged S) = gauged-either bytes (numbers S) (numbers-read S) ∙ ap answered (sym (gauged-film S))
-  session-film {f} (coefficients S) =
+  session-film (fromGauge S) = gauged-either bytes (numbers S) (numbers-read S) ∙ ap answered (sym (gauged-film S))
+  session-film {f} (fromCoefficients S) =
       coefficients-either bytes f
       (read-coefficients bytes (S .weights) (S .diagonals) (S .rights) (S .ups) (S .sources) (S .head) (S .loads) ∙ ap answered (sym (S .lent)))
 
@@ -164,5 +164,12 @@ module _ (bytes : List ℕ) (B : Bytes bytes) where
   session-exists f e = go (kind-of bytes f e)
     where
       go : Kind bytes f → Session bytes f
-      go (byGauge g r same) = subst (Session bytes) same (gauged (gauged-exists g r))
-      go (byCoefficients r) = coefficients (coefficients-exist f r)
+      go (byGauge g r same) = subst (Session bytes) same (fromGauge (gauged-exists g r))
+      go (byCoefficients r) = fromCoefficients (coefficients-exist f r)
+
+-- Two files with the same film, as a gauged film's and the one that it was converted to (`read-convert`), lend it to the same runs and proposals.
+pub session-converted : (bytes other : List ℕ) → Bytes bytes → Bytes other → readEither other ≡ readEither bytes
+    → {f g : Film} → Session bytes f → Session other g → f ≡ g
+session-converted bytes other B C e S T =
+    let same : answered _ ≡ answered _ = sym (session-film bytes B S) ∙ sym e ∙ session-film other C T in
+    cc

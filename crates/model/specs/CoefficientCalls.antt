@@ -1,4 +1,4 @@
--- Document 02, W1: the calls that read a coefficient film's file, write one, and convert a thickness film into one.
+-- Document 02, W1: the calls that read a coefficient film's file, write one, and convert a gauged film into one.
 use mathlib.Core.Path.{_≡_}
 use mathlib.Core.Bool.{Bool, not, _&&_}
 use mathlib.Core.List.{List}
@@ -64,7 +64,7 @@ coefficientSaveCheck f out = writerCheck f (filmFits f && eqb (length out) (coef
 abbrev pub coefficientSaveCall : Film → List ℕ → Result (Answer (Unit {0}))
 coefficientSaveCall f out = callBy (coefficientSaveCheck f out) (written (coefficientFileOf f)) out
 
--- Converting: the file of the film that a thickness film's numbers form, into a lent slice of exactly its length. It is refused as forming is.
+-- Converting: the file of the film that a gauged film's numbers form, into a lent slice of exactly its length. It is refused as forming is.
 abbrev pub convertCheck : Gauge → List ℕ → Check
 convertCheck g out = gaugeCheck g (gaugeFits g && eqb (length out) (coefficientEnd (cells (g .rows) (g .columns))))
 

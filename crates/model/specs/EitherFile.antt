@@ -16,7 +16,7 @@ use Rattle.model.specs.CoefficientFile.{readCoefficients}
 abbrev pub tagged06 : List ℕ → Bool
 tagged06 bytes = eqb (byteAt bytes (fieldsEnd (opening (cellsIn bytes)) 0)) 6
 
--- the film that a thickness film's numbers form
+-- the film that a gauged film's numbers form
 abbrev pub formedBy : Answer Gauge → Answer Film
 formedBy (answered g) = answered (formed g)
 formedBy (refused number place) = refused number place

@@ -1,5 +1,5 @@
 -- Document 01, demand 3, of the calls themselves: a film as it is lent to runs and proposals, after its file was read into lent buffers and, if it
--- is a thickness film's, its coefficients were formed into lent slices. All that is said of these calls is what stands in their `ensures`.
+-- is a gauged film's, its coefficients were formed into lent slices. All that is said of these calls is what stands in their `ensures`.
 use mathlib.Core.Path.{_≡_}
 use mathlib.Core.List.{List}
 use Prim.Native.Nat.{ℕ, _*_}
@@ -11,7 +11,7 @@ use Rattle.model.specs.FileCalls.{used, film, Loads, Forms}
 use Rattle.model.specs.CoefficientCalls.{usedFilm, LoadsCoefficients}
 use Rattle.model.specs.declared.Head.{Head}
 
--- a thickness film, by `read` and `form`
+-- a gauged film, by `read` and `form`
 pub record GaugedSession (bytes : List ℕ) (f : Film) : Type 0 where
   -- the file was read: what the reader answered, and its buffers before and after
   pub head : Head
@@ -39,7 +39,7 @@ pub record GaugedSession (bytes : List ℕ) (f : Film) : Type 0 where
   -- these slices, with the weights, are lent to every run and proposal
   pub lent : f ≡ filmOf head (take (head .rows * head .columns) weights′) diagonals′ rights′ ups′ sources′
 
--- a coefficient film, by `read_coefficients`: what it answered, and its buffers before and after, whose first N places are lent to every run
+-- a coefficient film, by `coefficient_file::read`: what it answered, and its buffers before and after, whose first N places are lent to every run
 -- and proposal
 pub record CoefficientSession (bytes : List ℕ) (f : Film) : Type 0 where
   pub head : Head
@@ -58,5 +58,5 @@ pub record CoefficientSession (bytes : List ℕ) (f : Film) : Type 0 where
 
 -- lists of runs may begin from either file
 pub data Session (bytes : List ℕ) (f : Film) : Type 0 where
-  gauged : GaugedSession bytes f → Session bytes f
-  coefficients : CoefficientSession bytes f → Session bytes f
+  fromGauge : GaugedSession bytes f → Session bytes f
+  fromCoefficients : CoefficientSession bytes f → Session bytes f

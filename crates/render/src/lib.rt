@@ -1,5 +1,5 @@
 // The report's text, from a film, a run's answer and the field that it left: which line says what. Crate `report_lines` has how a line
-// is written. Internal: crates `film_text` and `report` call it.
+// is written. Internal: crates `film_text`, `gauged_report` and `coefficient_report` call it.
 //
 // Proved: what is written into the lent slice is exactly the text that crate `model` defines (model/specs/Report).
 ghost use mathlib.Core.Path.{_≡_};
