@@ -1,10 +1,10 @@
-// The calls on film files and on a film's own numbers.
+// The calls on gauged films' files, and the report.
 ghost use Rattle.model.specs.Result.{refusalIn};
 ghost use Rattle.model.specs.FileCalls.{gaugeOf, saveCall};
 ghost use Rattle.model.specs.ReportCall.{reportCall};
 ghost use Rattle.told.specs.Refused.{Told};
 ghost use Rattle.tell_files.specs.Files.{ReportTold};
-ghost use Rattle.archive.specs.Lent.{lentHead, Leaves, ReadTold, FormTold};
+ghost use Rattle.archive.specs.Lent.{lentHead, Leaves, ReadTold};
 
 // Writes a file's report at the start of out, and tells its length.
 #[no_mangle]
@@ -51,33 +51,4 @@ pub extern "C" fn film_write(
     let head = archive::head_of(head);
     let answer = file::write(head, weights, thicknesses, wedge, out);
     tell_files::write(answer, place)
-}
-
-// Forms the coefficients of a film.
-#[no_mangle]
-pub extern "C" fn film_form(
-    head: &[u32; 3],
-    weights: &[u16],
-    thicknesses: &[u8],
-    wedge: i32,
-    diagonals: &mut [u32],
-    rights: &mut [u32],
-    ups: &mut [u32],
-    sources: &mut [i64],
-    place: &mut usize,
-) -> u32
-    ensures { λ r. ⌜ FormTold (gaugeOf (lentHead (now (head .entry))) (now (weights .entry)) (now (thicknesses .entry)) wedge) (now (diagonals .entry)) (now (rights .entry)) (now (ups .entry)) (now (sources .entry)) (now (place .entry)) r (now (diagonals .exit)) (now (rights .exit)) (now (ups .exit)) (now (sources .exit)) (now (place .exit)) ⌝ }
-{
-    let head = archive::head_of(head);
-    let answer = coefficients::form(
-        head,
-        weights,
-        thicknesses,
-        wedge,
-        diagonals,
-        rights,
-        ups,
-        sources,
-    );
-    tell_files::form(answer, place)
 }

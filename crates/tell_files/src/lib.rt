@@ -2,7 +2,7 @@
 // weights, thicknesses and coefficients are in the caller's slices already; what is told here are the numbers beside them: a report's
 // length, and the head and wedge of a film that was read.
 //
-// Internal: crates `film_c` and `film_c_coefficients` call it, and include/film.h says for C what the numbers mean.
+// Internal: crates `film_c`, `film_c_form` and `film_c_coefficients` call it, and include/film.h says for C what the numbers mean.
 //
 // Proved: the number returned is 0 or the refusal's, and each lent number and array holds what specs/ says of the answer. A refusal
 // writes its place and nothing else; an answer leaves the place as it was.

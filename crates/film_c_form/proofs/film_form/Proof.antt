@@ -1,9 +1,9 @@
--- `film_c::film_form` meets its contract: the public call promises its answer for the head that `head_of` makes, and `tell_files::form` tells it.
+-- `film_c_form::film_form` meets its contract: the public call promises its answer for the head that `head_of` makes, and `tell_files::form` tells it.
 use mir.Facts.{toZ-ofZ}
 use borrow.Author.Needs.{needs}
 use Rattle.archive.proofs.Told.{form-told}
-use Rattle.film_c.proofs.files.film_form.Statement.{statement}
-use Rattle.film_c.proofs.files.film_form.Tie as tie
+use Rattle.film_c_form.proofs.film_form.Statement.{statement}
+use Rattle.film_c_form.proofs.film_form.Tie as tie
 
 head-of-requires : tie.Need-head-of-requires
 head-of-requires c κs = search needs
