@@ -1,6 +1,6 @@
 // Plays film F as a coefficient film (document 02, W1) through the public calls, and prints what they answer: the converter's file, what the
-// reader lays over its buffers, the file written back, and refusals. The file `stdout` beside src/ was written from the
-// documents by hand.
+// reader lays over its buffers, the file written back, and refusals. The file `stdout` beside src/ was made from
+// the documents, and not from what the program prints.
 use libc::STDOUT_FILENO;
 use model::Head;
 use model::LoadedCoefficients;
