@@ -5,7 +5,8 @@
  *
  * A film file is of one of two kinds. Both begin with fields 01 (shape), 02 (ceiling) and 03 (weights, 2 bytes a cell).
  *
- *    a gauged film         goes on with 04 (thicknesses, a byte each) and 05 (wedge, 4 bytes): 25 + 2 * N + T bytes, at most 3,229
+ *    a gauged film         goes on with 04 (thicknesses, a byte each) and 05 (wedge, 4 bytes), and may end with 0A (steps, a byte each):
+ *                          25 + 2 * N + T bytes, and 5 more with 0A, at most 3,234
  *    a coefficient film    goes on with 06 (diagonals), 07 (right links), 08 (up links), 4 bytes a cell each, and 09 (sources, 8 bytes a
  *                          cell): 27 + 22 * N bytes, at most 22,555
  *
@@ -13,14 +14,14 @@
  * Each kind has a reader and a writer; film_convert makes a coefficient film's file of a gauged film; film_report takes either kind.
  *
  * Every call returns 0 if it answered, and then writes what its comment says and leaves *place as it was. Otherwise it returns the number of
- * a refusal, 1 to 14, writes the refusal's place to *place, and changes nothing else: no result, no field, no slice.
+ * a refusal, 1 to 15, writes the refusal's place to *place, and changes nothing else: no result, no field, no slice.
  *
  *    1 truncated           a file's header or body runs past its end; place: the file's length
  *    2 unexpected          a tag is not the next one, or bytes follow the last field; place: its offset
  *    3 wrong length        a body's length is wrong for its tag; place: the field's offset
- *    4 bad shape           rows or columns are not 1 to 32; place: its offset, 3 or 4 (in steps and runs 0)
- *    5 bad ceiling         the ceiling is not 1 to 16,777,216; place: its offset, 8 (in steps and runs 0)
- *    6 zero weight         a weight is 0; place: its offset, 15 + 2 * cell (in steps and runs the cell)
+ *    4 bad shape           rows or columns are not 1 to 32; place: its offset, 3 or 4 (in numeric calls 0)
+ *    5 bad ceiling         the ceiling is not 1 to 16,777,216; place: its offset, 8 (in numeric calls 0)
+ *    6 zero weight         a weight is 0; place: its offset, 15 + 2 * cell (in numeric calls the cell)
  *    7 bad thickness       a thickness is not 1 to 128; place: its offset
  *    8 bad wedge           the wedge is beyond 1,000,000,000 either way; place: its offset
  *    9 not dominant        a weighted row sum is below 1; place: the cell
@@ -29,9 +30,10 @@
  *   12 start above ceiling a pressure of the field is above the ceiling; place: the cell
  *   13 out of grid         a line or cell is outside the grid; place: 0
  *   14 bad coefficient     a coefficient is outside its limits; place: the cell
+ *   15 bad step            a grid step is not 1 to 4; place: its offset, 28 + 2 * N + T for along, one more for across
  *
  * Offsets are those in the film file. Calls that take a film's numbers and no file name the offsets that these would have in one: film_write,
- * film_form and film_convert in a gauged film's, film_write_coefficients in a coefficient film's. The steps and runs are the calls from
+ * film_form and film_convert in a gauged film's, film_write_coefficients in a coefficient film's. The numeric calls are those from
  * film_relax to film_run.
  *
  * Where several would do, the call names the first that it tests for; each call lists its tests in their order.
@@ -64,42 +66,58 @@ typedef struct film_head {
     uint32_t ceiling; /* 1 to 16,777,216 pressure steps */
 } film_head;
 
+/* A gauged film's steps, field 0A, for grids that are coarser one way than the other. Links within a row are multiplied by `along`, links
+ * between rows by `across`, those to the ring too; sources are not. A film without the field has links as they are; one that has it with 1 and
+ * 1 has the same links, and is another file. Make them as a head,
+ *
+ *    film_steps none = { 0 }, steps = { .given = 1, .along = 4, .across = 1 };
+ *
+ * The library takes them, too, as an array of these numbers in this order. */
+typedef struct film_steps {
+    uint32_t given;  /* 0: the film has no field 0A, and the two below are neither read nor tested; any other number: it has one */
+    uint32_t along;  /* 1 to 4 */
+    uint32_t across; /* 1 to 4 */
+} film_steps;
+
 #if defined(__cplusplus) && __cplusplus >= 201103L
 static_assert(sizeof(film_head) == 3 * sizeof(uint32_t), "film_head has the layout of an array");
+static_assert(sizeof(film_steps) == 3 * sizeof(uint32_t), "film_steps has the layout of an array");
 #elif defined(__STDC_VERSION__) && __STDC_VERSION__ >= 201112L
 _Static_assert(sizeof(film_head) == 3 * sizeof(uint32_t), "film_head has the layout of an array");
+_Static_assert(sizeof(film_steps) == 3 * sizeof(uint32_t), "film_steps has the layout of an array");
 #endif
 
 /* Reads a gauged film's file. `weights` has 1,024 elements and `thicknesses` 1,156, whatever the film; those beyond the film's N and T keep
- * their contents. Writes the film's head and its wedge.
- * Refusals: 10, then the fields in their order, each with 1 (header), 2, 3, 1 (body) and its values (4, 5, 6, 7, 8), then 2 for what follows,
- * then 9. A coefficient film is refused with 2 at its tag 06. */
+ * their contents. Writes the film's head, its wedge and its steps: given = 1 and both numbers, or given = 0 alone, where the film has no field
+ * 0A.
+ * Refusals: 10, then the fields in their order, each with 1 (header), 2, 3, 1 (body) and its values (4, 5, 6, 7, 8); behind field 05, if 0A
+ * stands there, that field with 1, 3, 1 and 15; then 2 for what follows, then 9. A coefficient film is refused with 2 at its tag 06. */
 uint32_t film_read(const uint8_t *file, size_t file_len,
                    uint16_t *weights, size_t weights_len, uint8_t *thicknesses, size_t thicknesses_len,
-                   film_head *head, int32_t *wedge, size_t *place);
+                   film_head *head, int32_t *wedge, film_steps *steps, size_t *place);
 
-/* Writes a gauged film's file. `weights` has N elements, `thicknesses` T, and `out` exactly the file's length, 25 + 2 * N + T.
- * Refusals: 4, 10, 5, 6, 7, 8, 9. */
+/* Writes a gauged film's file. `weights` has N elements, `thicknesses` T, and `out` exactly the file's length, 25 + 2 * N + T, and 5 more
+ * where steps are given. Refusals: 4, 10, 5, 6, 7, 8, 15, 9. */
 uint32_t film_write(const film_head *head,
                     const uint16_t *weights, size_t weights_len, const uint8_t *thicknesses, size_t thicknesses_len,
-                    int32_t wedge, uint8_t *out, size_t out_len, size_t *place);
+                    int32_t wedge, const film_steps *steps, uint8_t *out, size_t out_len, size_t *place);
 
-/* Forms the coefficients of a gauged film from its thicknesses and wedge. `weights`, `diagonals`, `rights`, `ups` and `sources` have N
+/* Forms the coefficients of a gauged film from its thicknesses, wedge and steps. `weights`, `diagonals`, `rights`, `ups` and `sources` have N
  * elements, `thicknesses` has T. The link of two neighbours, or of a cell and its neighbour on the ring, is the cube of the sum of their two
- * thicknesses; a diagonal is the sum of the cell's four links; a source is wedge * (thickness of the next column - thickness of the column
- * before) in the cell's row. Refusals: 4, 10, 5, 6, 7, 8, 9. */
+ * thicknesses, times `along` within a row and `across` between rows where steps are given; a diagonal is the sum of the cell's four links; a
+ * source is wedge * (thickness of the next column - thickness of the column before) in the cell's row. Refusals: 4, 10, 5, 6, 7, 8, 15, 9. */
 uint32_t film_form(const film_head *head,
                    const uint16_t *weights, size_t weights_len, const uint8_t *thicknesses, size_t thicknesses_len,
-                   int32_t wedge,
+                   int32_t wedge, const film_steps *steps,
                    uint32_t *diagonals, size_t diagonals_len, uint32_t *rights, size_t rights_len,
                    uint32_t *ups, size_t ups_len, int64_t *sources, size_t sources_len,
                    size_t *place);
 
 /* A film as coefficients has a weight, a diagonal, two links and a source for each cell, formed or from a mesh of the caller's own.
  *
- *    diagonals  1 to 134,217,728
- *    rights     right links, to the cell in the next column, 0 to 16,777,216; 0 in the last column
- *    ups        up links, to the cell in the next row, 0 to 16,777,216; 0 in the last row
+ *    diagonals  1 to 268,435,456
+ *    rights     right links, to the cell in the next column, 0 to 67,108,864; 0 in the last column
+ *    ups        up links, to the cell in the next row, 0 to 67,108,864; 0 in the last row
  *    sources    -1,125,899,906,842,624 to 1,125,899,906,842,624, both ends included
  *
  * Outside these limits is refusal 14, at the lowest cell with such a number. A link serves both of its cells. Links to the ring count in the
@@ -128,13 +146,13 @@ uint32_t film_write_coefficients(const film_head *head,
                                  uint8_t *out, size_t out_len, size_t *place);
 
 /* Converts a gauged film: writes the file of the coefficient film of the same problem, whose coefficients are those that film_form forms.
- * `weights` has N elements, `thicknesses` T, and `out` exactly the file's length, 27 + 22 * N.
- * Refusals: 4, 10, 5, 6, 7, 8, 9, at the offsets of the gauged film's file. */
+ * Steps are worked into its links. `weights` has N elements, `thicknesses` T, and `out` exactly the file's length, 27 + 22 * N.
+ * Refusals: 4, 10, 5, 6, 7, 8, 15, 9, at the offsets of the gauged film's file. */
 uint32_t film_convert(const film_head *head,
                       const uint16_t *weights, size_t weights_len, const uint8_t *thicknesses, size_t thicknesses_len,
-                      int32_t wedge, uint8_t *out, size_t out_len, size_t *place);
+                      int32_t wedge, const film_steps *steps, uint8_t *out, size_t out_len, size_t *place);
 
-/* The steps and runs below take a film as coefficients, of whichever kind its file was: `weights`, `diagonals`, `rights`, `ups`, `sources`
+/* The numeric calls below take a film as coefficients, of whichever kind its file was: `weights`, `diagonals`, `rights`, `ups`, `sources`
  * and `field` have N elements. */
 
 /* Relaxes cell `at` of the field. Writes to result[0]: 0 if the cell is quiet, 1 if it was raised, 2 if it would pass the ceiling; and to

@@ -2,9 +2,9 @@
 """Writes crates/film_files: the film files in data/, their names in args and what the program must print in stdout.
 Usage: python3 tests/film_files.py
 
-Worked out from document 01 alone, in Python's whole numbers: it shares no line with the program. A film is described by its
-numbers; its file, and the answer to it, are worked out here. The faulty files carry the number and place that document 01's
-table gives for the fault, written beside each one by hand.
+Worked out from document 01 and request W2 of document 02 alone, in Python's whole numbers: it shares no line with the program. A film
+is described by its numbers; its file, and the answer to it, are worked out here. The faulty files carry the number and place that the
+documents give for the fault, written beside each one by hand.
 """
 import os
 import random
@@ -17,12 +17,13 @@ def field(tag, body):
 
 
 class Film:
-    def __init__(self, rows, columns, ceiling, weights, thicknesses, wedge):
+    def __init__(self, rows, columns, ceiling, weights, thicknesses, wedge, steps=None):
         self.rows, self.columns, self.ceiling = rows, columns, ceiling
         self.weights, self.thicknesses, self.wedge = list(weights), list(thicknesses), wedge
+        self.steps = steps  # along and across, or None where the film has no field for them
 
     def but(self, **changes):
-        film = Film(self.rows, self.columns, self.ceiling, self.weights, self.thicknesses, self.wedge)
+        film = Film(self.rows, self.columns, self.ceiling, self.weights, self.thicknesses, self.wedge, self.steps)
         film.__dict__.update(changes)
         return film
 
@@ -39,14 +40,18 @@ class Film:
             + field(3, b"".join(w.to_bytes(2, "big") for w in self.weights))
             + field(4, bytes(self.thicknesses))
             + field(5, self.wedge.to_bytes(4, "big", signed=True))
+            + (field(10, bytes(self.steps)) if self.steps else b"")
         )
 
-    def answer(self):
-        def h(r, c):
-            return self.thicknesses[r * (self.columns + 2) + c]
+    def link(self, r, c, s, d):
+        along, across = self.steps or (1, 1)
+        return (along if r == s else across) * (self.h(r, c) + self.h(s, d)) ** 3
 
-        def link(r, c, s, d):
-            return (h(r, c) + h(s, d)) ** 3
+    def h(self, r, c):
+        return self.thicknesses[r * (self.columns + 2) + c]
+
+    def answer(self):
+        h, link = self.h, self.link
 
         diagonals, rights, ups, sources = [], [], [], []
         for r in range(1, self.rows + 1):
@@ -55,7 +60,8 @@ class Film:
                 rights.append(link(r, c, r, c + 1) if c < self.columns else 0)
                 ups.append(link(r, c, r + 1, c) if r < self.rows else 0)
                 sources.append(self.wedge * (h(r, c + 1) - h(r, c - 1)))
-        lines = [f"FILM {self.rows} {self.columns} {self.ceiling} {self.wedge}"]
+        steps = " ALONG {} ACROSS {}".format(*self.steps) if self.steps else ""
+        lines = [f"FILM {self.rows} {self.columns} {self.ceiling} {self.wedge}{steps}"]
         for name, numbers in (("DIAGONALS", diagonals), ("RIGHTS", rights), ("UPS", ups), ("SOURCES", sources)):
             lines.append(" ".join([name, *map(str, numbers)]))
         return lines + ["WRITES BACK THE SAME"]
@@ -63,23 +69,21 @@ class Film:
 
 def around(film, r, c):
     """The links of a cell, each with the weight on its other end: 0 on the ring."""
-    def h(s, d):
-        return film.thicknesses[s * (film.columns + 2) + d]
-
     for s, d in ((r - 1, c), (r + 1, c), (r, c - 1), (r, c + 1)):
         inside = 1 <= s <= film.rows and 1 <= d <= film.columns
-        yield (h(r, c) + h(s, d)) ** 3, film.weights[(s - 1) * film.columns + d - 1] if inside else 0
+        yield film.link(r, c, s, d), film.weights[(s - 1) * film.columns + d - 1] if inside else 0
 
 
 def cells(film):
     return [(r, c) for r in range(1, film.rows + 1) for c in range(1, film.columns + 1)]
 
 
-def made(rows, columns, ceiling, wedge, seed, thicknesses=lambda draw: draw.randint(1, 128)):
+def made(rows, columns, ceiling, wedge, seed, thicknesses=lambda draw: draw.randint(1, 128), steps=None):
     """A film with drawn thicknesses. Its weights are steps of 64 to the ring, so to speak: each cell's is 64 above the mean of
     its neighbours', links counted."""
     draw = random.Random(seed)
-    film = Film(rows, columns, ceiling, [0.0] * (rows * columns), [thicknesses(draw) for _ in range((rows + 2) * (columns + 2))], wedge)
+    drawn = [thicknesses(draw) for _ in range((rows + 2) * (columns + 2))]
+    film = Film(rows, columns, ceiling, [0.0] * (rows * columns), drawn, wedge, steps)
     for _ in range(1000):
         for i, (r, c) in enumerate(cells(film)):
             links = list(around(film, r, c))
@@ -89,6 +93,8 @@ def made(rows, columns, ceiling, wedge, seed, thicknesses=lambda draw: draw.rand
 
 F = Film(1, 2, 100, [1, 1], [1, 1, 1, 1, 3, 2, 1, 1, 1, 1, 1, 1], 100)
 THREE = made(3, 3, 5000, -12345, 3)
+STEPS = F.but(steps=(2, 3))
+THREE_STEPS = made(3, 3, 5000, -12345, 3, steps=(3, 4))
 FILE = F.file()
 assert FILE.hex() == "0100020102" "02000400000064" "03000400010001" "04000c010101010302010101010101" "05000400000064"
 
@@ -97,7 +103,8 @@ def put(file, at, *values):
     return file[:at] + bytes(values) + file[at + len(values):]
 
 
-# film F's fields are at 0, 5, 12, 19 and 34; its weights from 15, its thicknesses from 22, its wedge number at 37
+# film F's fields are at 0, 5, 12, 19 and 34; its weights from 15, its thicknesses from 22, its wedge number at 37; with steps, their field
+# is at 41, and they are at 44 and 45
 VALID = [
     ("f", F),
     ("wedge_zero", F.but(wedge=0)),
@@ -114,6 +121,15 @@ VALID = [
     ("thin", made(2, 2, 255, 256, 6, thicknesses=lambda draw: 1)),
     ("even", made(2, 3, 256, 255, 7, thicknesses=lambda draw: draw.randint(60, 64))),
     ("largest", made(32, 32, 100_000, -65_537, 8)),
+    ("steps", STEPS),
+    ("steps_equal", F.but(steps=(1, 1))),
+    ("steps_least_and_most", F.but(steps=(1, 4))),
+    ("steps_most_and_least", F.but(steps=(4, 1))),
+    ("steps_of_three", THREE_STEPS),
+    ("steps_of_one_cell", made(1, 1, 7, 3, 1, steps=(3, 2)).weight(0, 65_535)),
+    ("steps_of_a_column", made(32, 1, 65_536, -1, 4, steps=(1, 3))),
+    ("steps_thick", made(4, 5, 1000, 1_000_000_000, 5, thicknesses=lambda draw: 128, steps=(4, 4))),
+    ("steps_largest", made(32, 32, 100_000, -65_537, 8, steps=(4, 1))),
 ]
 
 REFUSED = [
@@ -171,6 +187,42 @@ REFUSED = [
     ("wedge_before_stray", F.but(wedge=1_000_000_001).file() + b"\0", 8, 37),
     ("wedge_before_unheld", F.weight(1, 8).but(wedge=-1_000_000_001).file(), 8, 37),
     ("stray_before_unheld", F.weight(1, 8).file() + b"\5", 2, 41),
+    # behind the wedge number the tag is looked at before the header
+    ("steps_tag_alone", FILE + b"\x0a", 1, 42),
+    ("steps_header_cut", FILE + b"\x0a\0", 1, 43),
+    ("steps_missing", STEPS.file()[:44], 1, 44),
+    ("steps_cut", STEPS.file()[:45], 1, 45),
+    ("next_tag_alone", FILE + b"\x0b", 2, 41),
+    ("next_tag_with_header", FILE + b"\x0b\0\2\1\1", 2, 41),
+    ("wedge_twice", FILE + FILE[34:], 2, 41),
+    ("steps_twice", STEPS.file() + STEPS.file()[41:], 2, 46),
+    ("steps_and_a_byte", STEPS.file() + b"\0", 2, 46),
+    ("steps_and_their_tag", STEPS.file() + b"\x0a", 2, 46),
+    ("steps_before_wedge", FILE[:34] + STEPS.file()[41:] + FILE[34:], 2, 34),
+    ("steps_first", STEPS.file()[41:] + FILE, 2, 0),
+    ("steps_length", put(STEPS.file(), 43, 3), 3, 41),
+    ("steps_length_zero", FILE + b"\x0a\0\0", 3, 41),
+    ("steps_length_one", FILE + b"\x0a\0\1\1", 3, 41),
+    ("steps_length_little_endian", put(STEPS.file(), 42, 2, 0), 3, 41),
+    ("along_zero", F.but(steps=(0, 1)).file(), 15, 44),
+    ("along_five", F.but(steps=(5, 1)).file(), 15, 44),
+    ("along_all_ones", F.but(steps=(255, 1)).file(), 15, 44),
+    ("across_zero", F.but(steps=(1, 0)).file(), 15, 45),
+    ("across_five", F.but(steps=(4, 5)).file(), 15, 45),
+    ("across_of_three", THREE_STEPS.but(steps=(4, 129)).file(), 15, 28 + 2 * 9 + 25 + 1),
+    # with steps 4 and 1 the weighted row sum of cell 0 is 662 w0 - 108 w1, that of cell 1 is 156 w1 - 108 w0
+    ("steps_unheld_first", F.but(steps=(4, 1)).weight(1, 7).file(), 9, 0),
+    ("steps_unheld_second", F.but(steps=(4, 1)).weight(0, 2).file(), 9, 1),
+    # again two faults at once
+    ("along_and_across", F.but(steps=(9, 0)).file(), 15, 44),
+    ("steps_length_before_cut", FILE + b"\x0a\0\3\1", 3, 41),
+    ("steps_length_before_along", FILE + b"\x0a\0\3\0\0\0", 3, 41),
+    ("steps_cut_before_along", FILE + b"\x0a\0\2\0", 1, 45),
+    ("wedge_before_along", F.but(wedge=1_000_000_001, steps=(0, 0)).file(), 8, 37),
+    ("wedge_before_steps_tag", F.but(wedge=1_000_000_001).file() + b"\x0a", 8, 37),
+    ("across_before_stray", F.but(steps=(1, 5)).file() + b"\0", 15, 45),
+    ("along_before_unheld", F.weight(1, 8).but(steps=(5, 1)).file(), 15, 44),
+    ("stray_behind_steps_before_unheld", F.weight(1, 8).but(steps=(4, 1)).file() + b"\5", 2, 46),
 ]
 
 

@@ -68,7 +68,8 @@ fn slider() -> Result<Film, Box<dyn Error>> {
         columns: COLUMNS as u32,
         ceiling: CEILING,
     };
-    Ok(Film::from_parts(head, weights, thicknesses, wedge())?)
+    // No steps: the grid is equal both ways.
+    Ok(Film::from_parts(head, weights, thicknesses, wedge(), None)?)
 }
 
 /// The table in whole steps, by rows, the ring included.

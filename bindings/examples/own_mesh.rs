@@ -1,5 +1,5 @@
 //! From a mesh of one's own to a film file, its report and its least field: a plane slider whose
-//! columns get narrower towards the thin end, which no gauge grid of equal steps has.
+//! columns get narrower towards the thin end, which no gauge grid has: its steps are even.
 //!
 //! The file goes to the path that is given, or else to `mesh.film` in the folder for temporary
 //! files.
@@ -23,7 +23,7 @@ const VISCOSITY: f64 = 0.03; // Pa s
 const SPEED: f64 = 5.0; // m/s, towards rising columns
 
 // What a whole number stands for.
-const LINK_STEP: f64 = 1e-18; // m³: the largest link is far below 16,777,216
+const LINK_STEP: f64 = 1e-18; // m³: the largest link is far below 67,108,864
 const PRESSURE_STEP: f64 = 100.0; // Pa
 
 /// 10 MPa: well above the peak to be expected, so that the film is not Over.

@@ -5,7 +5,7 @@ use crate::{CoefficientFilm, Film, Refusal};
 /// A film of either kind, as its file has it.
 #[derive(Clone, Debug, PartialEq, Eq)]
 pub enum AnyFilm {
-    /// Gauged thicknesses and a wedge number: fields 04 and 05.
+    /// Gauged thicknesses, a wedge number and perhaps steps: fields 04, 05 and 0A.
     Gauged(Film),
     /// Coefficients: fields 06 to 09.
     Coefficients(CoefficientFilm),

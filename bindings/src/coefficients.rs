@@ -22,11 +22,11 @@ pub struct CoefficientFilm {
 /// cells. Links to the boundary, whose pressure is 0, count in the diagonals alone.
 #[derive(Clone, Debug, Default, PartialEq, Eq)]
 pub struct Coefficients {
-    /// 1 to 134,217,728.
+    /// 1 to 268,435,456.
     pub diagonals: Vec<u32>,
-    /// Links to the next column, 0 to 16,777,216, and 0 in the last.
+    /// Links to the next column, 0 to 67,108,864, and 0 in the last.
     pub rights: Vec<u32>,
-    /// Links to the next row, 0 to 16,777,216, and 0 in the last.
+    /// Links to the next row, 0 to 67,108,864, and 0 in the last.
     pub ups: Vec<u32>,
     /// Up to 1,125,899,906,842,624 either way.
     pub sources: Vec<i64>,

@@ -14,8 +14,46 @@ use crate::Field;
 pub struct Film {
     thicknesses: Vec<u8>,
     wedge: i32,
+    steps: Option<Steps>,
     /// The same film by its coefficients, formed once, since every call on a field takes them.
     formed: CoefficientFilm,
+}
+
+/// Unequal grid steps: field 0A of a gauged film's file, which a film may have or not.
+///
+/// `along` : `across` is (grid step across)² : (grid step along)², where cells of a row are the step
+/// along apart: a grid twice as coarse across has 4 and 1. Sources are left alone, so the wedge number
+/// has to be taken `along` times (docs/MAKING-A-FILM.md).
+#[derive(Clone, Copy, Debug, PartialEq, Eq, Hash)]
+pub struct Steps {
+    /// What links within a row are multiplied by, 1 to 4.
+    pub along: u32,
+    /// What links between rows are multiplied by, 1 to 4.
+    pub across: u32,
+}
+
+impl From<Option<Steps>> for raw::Steps {
+    fn from(steps: Option<Steps>) -> raw::Steps {
+        match steps {
+            Some(Steps { along, across }) => raw::Steps {
+                given: 1,
+                along,
+                across,
+            },
+            None => raw::Steps::default(),
+        }
+    }
+}
+
+impl From<raw::Steps> for Option<Steps> {
+    fn from(steps: raw::Steps) -> Option<Steps> {
+        let raw::Steps {
+            given,
+            along,
+            across,
+        } = steps;
+        (given != 0).then_some(Steps { along, across })
+    }
 }
 
 /// The coefficients that a film's numbers form.
@@ -39,37 +77,43 @@ impl Film {
     pub fn read(file: &[u8]) -> Result<Film, Refusal> {
         let (mut weights, mut thicknesses) = (vec![0; MOST_CELLS], vec![0; 1_156]);
         let (mut head, mut wedge, mut place) = (Head::default(), 0, 0);
+        let mut steps = raw::Steps::default();
         let number = raw::read(
             file,
             &mut weights,
             &mut thicknesses,
             &mut head,
             &mut wedge,
+            &mut steps,
             &mut place,
         );
         tested(number, place)?;
         weights.truncate(area(head.rows, head.columns));
         thicknesses.truncate(area(head.rows + 2, head.columns + 2));
-        Film::from_parts(head, weights, thicknesses, wedge)
+        Film::from_parts(head, weights, thicknesses, wedge, steps.into())
     }
 
     /// Makes a film from its numbers: a weight for each cell by index, and thicknesses for rows 0
     /// to `rows` + 1 and in each of them columns 0 to `columns` + 1, the boundary ring included.
+    /// Without steps the grid is equal both ways.
     pub fn from_parts(
         head: Head,
         weights: Vec<u16>,
         thicknesses: Vec<u8>,
         wedge: i32,
+        steps: Option<Steps>,
     ) -> Result<Film, Refusal> {
         let coefficients = form(Gauge {
             head: &head,
             weights: &weights,
             thicknesses: &thicknesses,
             wedge,
+            steps: &raw::Steps::from(steps),
         })?;
         Ok(Film {
             thicknesses,
             wedge,
+            steps,
             formed: CoefficientFilm::accepted(head, weights, coefficients),
         })
     }
@@ -77,19 +121,23 @@ impl Film {
     /// The film file. Reading it gives the same film again, and a film that was read from a file
     /// writes that file's own bytes.
     pub fn write(&self) -> Result<Vec<u8>, Refusal> {
-        // Five headers of 3 bytes, shape, ceiling and wedge, and the two bodies.
-        let mut file = vec![0; 25 + 2 * self.cells() + self.thicknesses.len()];
-        let mut place = 0;
-        tested(raw::write(self.gauge(), &mut file, &mut place), place)?;
+        // Five headers of 3 bytes, shape, ceiling and wedge, and the two bodies; one header more with
+        // two steps.
+        let steps_length = if self.steps.is_some() { 5 } else { 0 };
+        let mut file = vec![0; 25 + 2 * self.cells() + self.thicknesses.len() + steps_length];
+        let (steps, mut place) = (raw::Steps::from(self.steps), 0);
+        let number = raw::write(self.gauge(&steps), &mut file, &mut place);
+        tested(number, place)?;
         Ok(file)
     }
 
     /// Converts the film: the file of the coefficient film of the same problem. Its runs and its
-    /// report are the same.
+    /// report are the same. Steps are worked into its links.
     pub fn convert(&self) -> Result<Vec<u8>, Refusal> {
         let mut file = vec![0; file_length(self.cells())];
-        let mut place = 0;
-        tested(raw::convert(self.gauge(), &mut file, &mut place), place)?;
+        let (steps, mut place) = (raw::Steps::from(self.steps), 0);
+        let number = raw::convert(self.gauge(&steps), &mut file, &mut place);
+        tested(number, place)?;
         Ok(file)
     }
 
@@ -98,12 +146,13 @@ impl Film {
         &self.formed
     }
 
-    fn gauge(&self) -> Gauge<'_> {
+    fn gauge<'a>(&'a self, steps: &'a raw::Steps) -> Gauge<'a> {
         Gauge {
             head: self.formed.head(),
             weights: self.formed.weights(),
             thicknesses: &self.thicknesses,
             wedge: self.wedge,
+            steps,
         }
     }
 }
@@ -144,6 +193,11 @@ impl Film {
     /// The wedge number.
     pub fn wedge(&self) -> i32 {
         self.wedge
+    }
+
+    /// The steps, if the film has any: `Some` of 1 and 1 is another file than `None`.
+    pub fn steps(&self) -> Option<Steps> {
+        self.steps
     }
 
     /// The sum of each cell's four links.

@@ -14,7 +14,7 @@
 //! // Film F: one row of two cells inside a ring of boundary thicknesses.
 //! let head = Head { rows: 1, columns: 2, ceiling: 100 };
 //! let thicknesses = vec![1, 1, 1, 1, 3, 2, 1, 1, 1, 1, 1, 1];
-//! let film = Film::from_parts(head, vec![1, 1], thicknesses, 100)?;
+//! let film = Film::from_parts(head, vec![1, 1], thicknesses, 100, None)?;
 //! let mut field = Field::zero(&film);
 //! let outcome = film.run(&mut field, 1_000, Order::Forward, false)?;
 //! assert!(matches!(outcome, Outcome::Done(_)));
@@ -39,7 +39,7 @@ pub use answers::{Counts, Order, Outcome, Proposed, Relaxed};
 pub use any::AnyFilm;
 pub use coefficients::{CoefficientFilm, Coefficients};
 pub use field::Field;
-pub use gauged::Film;
+pub use gauged::{Film, Steps};
 pub use raw::Head;
 pub use refusal::Refusal;
 pub use report::report;

@@ -6,8 +6,8 @@
 //! Why the calls are sound: the functions ask nothing of the numbers that they get. Any lengths and
 //! values are answered or refused, and proved to be. What C can't promise, Rust's types do here:
 //! each pointer comes from a reference that lives through the call, each length is that of the same
-//! slice, and what is written was lent by `&mut`, so nothing else points to it. [`Head`] is laid out
-//! as C's struct. No function keeps a pointer, calls back or unwinds.
+//! slice, and what is written was lent by `&mut`, so nothing else points to it. [`Head`] and [`Steps`]
+//! are laid out as C's structs. No function keeps a pointer, calls back or unwinds.
 //!
 //! Each answers 0, or the number of a refusal; then `place` has its place and nothing else has
 //! changed.
@@ -22,6 +22,19 @@ pub struct Head {
     pub columns: u32,
     /// The upper bound of every pressure, 1 to 16,777,216 steps.
     pub ceiling: u32,
+}
+
+/// A gauged film's steps, or that it has none: C's `film_steps`.
+#[repr(C)]
+#[derive(Clone, Copy, Debug, Default, PartialEq, Eq)]
+pub struct Steps {
+    /// 0: the film has no field 0A, and no call reads or tests the two below. Any other number: it has
+    /// one; `read` writes 1.
+    pub given: u32,
+    /// What links within a row are multiplied by, 1 to 4.
+    pub along: u32,
+    /// What links between rows are multiplied by, 1 to 4.
+    pub across: u32,
 }
 
 /// A film as coefficients, one number of each slice a cell: the numbers of a coefficient film's
@@ -43,6 +56,7 @@ pub struct Gauge<'a> {
     pub weights: &'a [u16],
     pub thicknesses: &'a [u8],
     pub wedge: i32,
+    pub steps: &'a Steps,
 }
 
 /// Lent buffers that `read_coefficients` fills, 1,024 numbers each whatever the film.
@@ -72,7 +86,8 @@ pub struct Ran {
     pub place: usize,
 }
 
-/// Reads a gauged film's file into `weights`, 1,024 of them, and `thicknesses`, 1,156.
+/// Reads a gauged film's file into `weights`, 1,024 of them, and `thicknesses`, 1,156. Of `steps` it
+/// writes `given` alone where the film has none.
 #[inline]
 pub fn read(
     file: &[u8],
@@ -80,10 +95,11 @@ pub fn read(
     thicknesses: &mut [u8],
     head: &mut Head,
     wedge: &mut i32,
+    steps: &mut Steps,
     place: &mut usize,
 ) -> u32 {
     // SAFETY: `file` is read within its length; the two buffers are written within theirs, and they
-    // and the three results are lent by `&mut`.
+    // and the four results are lent by `&mut`.
     unsafe {
         film_read(
             file.as_ptr(),
@@ -94,6 +110,7 @@ pub fn read(
             thicknesses.len(),
             head,
             wedge,
+            steps,
             place,
         )
     }
@@ -112,6 +129,7 @@ pub fn write(gauge: Gauge, out: &mut [u8], place: &mut usize) -> u32 {
             gauge.thicknesses.as_ptr(),
             gauge.thicknesses.len(),
             gauge.wedge,
+            gauge.steps,
             out.as_mut_ptr(),
             out.len(),
             place,
@@ -132,6 +150,7 @@ pub fn form(gauge: Gauge, formed: Formed, place: &mut usize) -> u32 {
             gauge.thicknesses.as_ptr(),
             gauge.thicknesses.len(),
             gauge.wedge,
+            gauge.steps,
             formed.diagonals.as_mut_ptr(),
             formed.diagonals.len(),
             formed.rights.as_mut_ptr(),
@@ -214,6 +233,7 @@ pub fn convert(gauge: Gauge, out: &mut [u8], place: &mut usize) -> u32 {
             gauge.thicknesses.as_ptr(),
             gauge.thicknesses.len(),
             gauge.wedge,
+            gauge.steps,
             out.as_mut_ptr(),
             out.len(),
             place,
@@ -447,6 +467,7 @@ extern "C" {
         thicknesses_len: usize,
         head: *mut Head,
         wedge: *mut i32,
+        steps: *mut Steps,
         place: *mut usize,
     ) -> u32;
 
@@ -457,6 +478,7 @@ extern "C" {
         thicknesses: *const u8,
         thicknesses_len: usize,
         wedge: i32,
+        steps: *const Steps,
         out: *mut u8,
         out_len: usize,
         place: *mut usize,
@@ -469,6 +491,7 @@ extern "C" {
         thicknesses: *const u8,
         thicknesses_len: usize,
         wedge: i32,
+        steps: *const Steps,
         diagonals: *mut u32,
         diagonals_len: usize,
         rights: *mut u32,
@@ -521,6 +544,7 @@ extern "C" {
         thicknesses: *const u8,
         thicknesses_len: usize,
         wedge: i32,
+        steps: *const Steps,
         out: *mut u8,
         out_len: usize,
         place: *mut usize,

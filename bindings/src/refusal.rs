@@ -6,10 +6,10 @@ use std::fmt;
 /// A call was refused: one fault, by its number, and its place. Nothing has changed.
 #[derive(Clone, Copy, Debug, PartialEq, Eq, Hash)]
 pub struct Refusal {
-    /// The fault's number, 1 to 14, as in the table of the README.
+    /// The fault's number, 1 to 15, as in the table of the README.
     pub number: u32,
-    /// The file's length (1), an offset in the film file (2 to 8; numbers that never were in a file
-    /// get the offset that they would have), a cell index (9, 12, 14), or 0 (10, 11, 13).
+    /// The file's length (1), an offset in the film file (2 to 8, 15; numbers that never were in a
+    /// file get the offset that they would have), a cell index (9, 12, 14), or 0 (10, 11, 13).
     pub place: usize,
 }
 
@@ -31,6 +31,7 @@ impl Refusal {
             12 => "StartAboveCeiling",
             13 => "OutOfGrid",
             14 => "BadCoefficient",
+            15 => "BadStep",
             _ => "Refused",
         }
     }
@@ -52,6 +53,7 @@ impl Refusal {
             12 => "a start pressure is above the ceiling",
             13 => "the line or cell is outside the grid",
             14 => "a coefficient is outside its limits",
+            15 => "a grid step is outside 1 to 4",
             _ => "the call was refused",
         }
     }
@@ -63,7 +65,7 @@ impl fmt::Display for Refusal {
         write!(f, "{name} ({}): {words}", self.number)?;
         match self.number {
             1 => write!(f, ", after {place} bytes"),
-            2..=8 => write!(f, ", at byte {place} of the film file"),
+            2..=8 | 15 => write!(f, ", at byte {place} of the film file"),
             9 | 12 | 14 => write!(f, ", at cell {place}"),
             10 | 11 | 13 => Ok(()),
             _ => write!(f, ", at {place}"),

@@ -25,7 +25,7 @@ const HEAD_F: Head = Head {
 
 fn gauged_f() -> Film {
     let thicknesses = vec![1, 1, 1, 1, 3, 2, 1, 1, 1, 1, 1, 1];
-    Film::from_parts(HEAD_F, vec![1, 1], thicknesses, 100).expect("film F is accepted")
+    Film::from_parts(HEAD_F, vec![1, 1], thicknesses, 100, None).expect("film F is accepted")
 }
 
 fn coefficients_f() -> Coefficients {
@@ -41,18 +41,22 @@ fn film_f() -> CoefficientFilm {
     CoefficientFilm::read(&FILE_F).expect("film F is accepted")
 }
 
-/// A film at every limit: 2 × 2 cells with the largest links, diagonals and sources.
-fn at_the_limits() -> Result<CoefficientFilm, Refusal> {
+/// 2 × 2 cells with the largest links, diagonals and sources.
+fn largest() -> Coefficients {
+    Coefficients {
+        diagonals: vec![268_435_456; 4],
+        rights: vec![67_108_864, 0, 67_108_864, 0],
+        ups: vec![67_108_864, 67_108_864, 0, 0],
+        sources: vec![1 << 50, -(1 << 50), -(1 << 50), 1 << 50],
+    }
+}
+
+/// A film of 2 × 2 cells with the largest ceiling and weights.
+fn of_four(coefficients: Coefficients) -> Result<CoefficientFilm, Refusal> {
     let head = Head {
         rows: 2,
         columns: 2,
         ceiling: 16_777_216,
-    };
-    let coefficients = Coefficients {
-        diagonals: vec![134_217_728; 4],
-        rights: vec![16_777_216, 0, 16_777_216, 0],
-        ups: vec![16_777_216, 16_777_216, 0, 0],
-        sources: vec![1 << 50, -(1 << 50), -(1 << 50), 1 << 50],
     };
     CoefficientFilm::from_parts(head, vec![65_535; 4], coefficients)
 }
@@ -86,7 +90,7 @@ fn file_both_ways() -> Result<(), Refusal> {
     assert_eq!(film.write()?, FILE_F);
     let parts = CoefficientFilm::from_parts(HEAD_F, vec![1, 1], coefficients_f())?;
     assert_eq!(parts, film);
-    let film = at_the_limits()?;
+    let film = of_four(largest())?;
     let file = film.write()?;
     assert_eq!(file.len(), 27 + 22 * 4);
     assert_eq!(CoefficientFilm::read(&file), Ok(film));
@@ -189,6 +193,19 @@ fn files() {
         let line = format!("REFUSED {number} {place}\n");
         assert_eq!(report(&file), Ok(line.into_bytes()));
     }
+}
+
+#[test]
+fn beyond_the_limits() {
+    let mut beyond = largest();
+    beyond.sources[3] += 1;
+    assert_eq!(of_four(beyond.clone()), refused(14, 3));
+    beyond.rights[2] += 1;
+    assert_eq!(of_four(beyond.clone()), refused(14, 2));
+    beyond.ups[1] += 1;
+    assert_eq!(of_four(beyond.clone()), refused(14, 1));
+    beyond.diagonals[0] += 1;
+    assert_eq!(of_four(beyond), refused(14, 0));
 }
 
 /// Coefficients are looked at once the whole file is there, and before the row sums.
@@ -301,6 +318,7 @@ fn slices_to_write_into() {
         weights: gauged.weights(),
         thicknesses: gauged.thicknesses(),
         wedge: gauged.wedge(),
+        steps: &raw::Steps::default(),
     };
     for length in [0, 41, 70, 72] {
         let (mut out, mut place) = (vec![7; length], 9);

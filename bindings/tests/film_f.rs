@@ -11,7 +11,7 @@ fn film_f(ceiling: u32, wedge: i32) -> Film {
         ceiling,
     };
     let thicknesses = vec![1, 1, 1, 1, 3, 2, 1, 1, 1, 1, 1, 1];
-    Film::from_parts(head, vec![1, 1], thicknesses, wedge).expect("film F is accepted")
+    Film::from_parts(head, vec![1, 1], thicknesses, wedge, None).expect("film F is accepted")
 }
 
 fn counts(visits: u32, raises: u32, accepted: u32) -> Counts {
@@ -34,6 +34,7 @@ fn coefficients() {
     let film = film_f(100, 100);
     assert_eq!((film.rows(), film.columns(), film.cells()), (1, 2, 2));
     assert_eq!((film.ceiling(), film.wedge()), (100, 100));
+    assert_eq!(film.steps(), None);
     assert_eq!(film.diagonals(), [206, 51]);
     assert_eq!(film.rights(), [27, 0]);
     assert_eq!(film.ups(), [0, 0]);

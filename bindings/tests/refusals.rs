@@ -20,7 +20,7 @@ fn from_parts(
         columns,
         ceiling,
     };
-    Film::from_parts(head, weights.to_vec(), THICKNESSES.to_vec(), wedge)
+    Film::from_parts(head, weights.to_vec(), THICKNESSES.to_vec(), wedge, None)
 }
 
 fn file_f() -> Vec<u8> {
@@ -113,6 +113,11 @@ fn words() {
             4,
             4,
             "BadShape (4): rows or columns are outside 1 to 32, at byte 4 of the film file",
+        ),
+        (
+            15,
+            44,
+            "BadStep (15): a grid step is outside 1 to 4, at byte 44 of the film file",
         ),
         (
             12,

@@ -2,7 +2,8 @@
 
 use crate::problem::Problem;
 use film::raw::{self, Formed, Gauge};
-use film::Head;
+use film::{Head, Steps};
+use film_oracle::film::Film;
 
 /// The numbers of a refusal: which, and where.
 pub type Refused = (u32, usize);
@@ -45,22 +46,24 @@ pub fn run(
     unless_refused(number, told.place, ran)
 }
 
-/// Head and wedge of a film file; weights and thicknesses go to the lent buffers.
+/// Head, wedge and steps of a film file; weights and thicknesses go to the lent buffers.
 pub fn read(
     file: &[u8],
     weights: &mut [u16],
     thicknesses: &mut [u8],
-) -> Result<(Head, i32), Refused> {
+) -> Result<(Head, i32, Option<Steps>), Refused> {
     let (mut head, mut wedge, mut place) = (Head::default(), 0, 0);
+    let mut steps = raw::Steps::default();
     let number = raw::read(
         file,
         weights,
         thicknesses,
         &mut head,
         &mut wedge,
+        &mut steps,
         &mut place,
     );
-    unless_refused(number, place, (head, wedge))
+    unless_refused(number, place, (head, wedge, steps.into()))
 }
 
 /// Head of a coefficient film's file; its other numbers go to the lent buffers.
@@ -126,6 +129,14 @@ pub fn head(rows: usize, columns: usize, ceiling: u32) -> Head {
         columns: columns as u32,
         ceiling,
     }
+}
+
+/// The library's steps, of the oracle's.
+pub fn steps_of(film: &Film) -> Option<Steps> {
+    film.steps.map(|steps| Steps {
+        along: steps.along,
+        across: steps.across,
+    })
 }
 
 fn unless_refused<T>(number: u32, place: usize, answer: T) -> Result<T, Refused> {

@@ -91,8 +91,8 @@ fn accepted(system: System, field: &[u32]) -> bool {
 fn within_limits(system: System, cell: usize) -> bool {
     let last_column = cell % system.columns + 1 == system.columns;
     let last_row = cell / system.columns + 1 == system.rows;
-    let most = |last: bool| if last { 0 } else { 16_777_216 };
-    (1..=134_217_728).contains(&system.diagonals[cell])
+    let most = |last: bool| if last { 0 } else { 67_108_864 };
+    (1..=268_435_456).contains(&system.diagonals[cell])
         && system.rights[cell] <= most(last_column)
         && system.ups[cell] <= most(last_row)
         && system.sources[cell].unsigned_abs() <= 1 << 50

@@ -95,7 +95,7 @@ fn test_coefficients(system: System) -> Result<(), Refused> {
             let cell = row * system.columns + column;
             let most_right = largest(column + 1 == system.columns);
             let most_up = largest(row + 1 == system.rows);
-            let within = (1..=134_217_728).contains(&system.diagonals[cell])
+            let within = (1..=268_435_456).contains(&system.diagonals[cell])
                 && system.rights[cell] <= most_right
                 && system.ups[cell] <= most_up
                 && system.sources[cell].unsigned_abs() <= 1 << 50;
@@ -110,7 +110,7 @@ fn largest(outward: bool) -> u32 {
     if outward {
         0
     } else {
-        16_777_216
+        67_108_864
     }
 }
 
@@ -180,10 +180,11 @@ pub fn convert(film: Numbers, out: &mut [u8]) -> Result<(), Refused> {
     ] {
         put_header(out, at, tag, bytes * cells);
     }
+    let steps = film.factors();
     for row in 1..=film.rows {
         for column in 1..=film.columns {
             let cell = (row - 1) * film.columns + column - 1;
-            let formed = film.formed(row, column);
+            let formed = film.formed(steps, row, column);
             put_number(out, at_diagonals, cell, formed.diagonal.to_be_bytes());
             put_number(out, at_rights, cell, formed.right.to_be_bytes());
             put_number(out, at_ups, cell, formed.up.to_be_bytes());

@@ -1,11 +1,11 @@
 //! Reading a gauged film's file, forming coefficients and printing the report, in plain Rust: what
 //! Film's calls do, with the same tests, as one would write it without proofs.
 
-use crate::calls::{head, Lent, Refused};
+use crate::calls::{head, steps_of, Lent, Refused};
 use crate::plain::{self, End};
 use crate::plain_coefficients;
 use crate::problem::System;
-use film::Head;
+use film::{Head, Steps};
 use film_oracle::film::Film;
 use std::fmt::{self, Write};
 
@@ -18,6 +18,7 @@ pub struct Numbers<'a> {
     pub weights: &'a [u16],
     pub thicknesses: &'a [u8],
     pub wedge: i32,
+    pub steps: Option<Steps>,
 }
 
 /// The coefficients of a cell.
@@ -37,7 +38,16 @@ impl<'a> Numbers<'a> {
             weights: &film.weights,
             thicknesses: &film.thickness,
             wedge: film.wedge,
+            steps: steps_of(film),
         }
+    }
+
+    /// What links within a row and links between rows are multiplied by.
+    pub fn factors(&self) -> Steps {
+        self.steps.unwrap_or(Steps {
+            along: 1,
+            across: 1,
+        })
     }
 
     /// Thickness at row 0 to R + 1 and column 0 to C + 1.
@@ -46,20 +56,20 @@ impl<'a> Numbers<'a> {
     }
 
     /// Links of a cell to those before, after, below and above, the ring included.
-    fn links(&self, row: usize, column: usize) -> [u32; 4] {
+    fn links(&self, steps: Steps, row: usize, column: usize) -> [u32; 4] {
         let here = self.thickness(row, column);
         [
-            self.thickness(row, column - 1),
-            self.thickness(row, column + 1),
-            self.thickness(row - 1, column),
-            self.thickness(row + 1, column),
+            (steps.along, self.thickness(row, column - 1)),
+            (steps.along, self.thickness(row, column + 1)),
+            (steps.across, self.thickness(row - 1, column)),
+            (steps.across, self.thickness(row + 1, column)),
         ]
-        .map(|there| (here + there).pow(3))
+        .map(|(step, there)| step * (here + there).pow(3))
     }
 
-    /// A cell's coefficients.
-    pub fn formed(&self, row: usize, column: usize) -> Formed {
-        let [before, after, below, above] = self.links(row, column);
+    /// A cell's coefficients, with the film's factors, which a caller has found once.
+    pub fn formed(&self, steps: Steps, row: usize, column: usize) -> Formed {
+        let [before, after, below, above] = self.links(steps, row, column);
         let rise =
             i64::from(self.thickness(row, column + 1)) - i64::from(self.thickness(row, column - 1));
         Formed {
@@ -71,10 +81,10 @@ impl<'a> Numbers<'a> {
     }
 
     /// Weighted row sum.
-    fn dominance(&self, row: usize, column: usize) -> i64 {
+    fn dominance(&self, steps: Steps, row: usize, column: usize) -> i64 {
         let (rows, columns) = (self.rows, self.columns);
         let cell = (row - 1) * columns + column - 1;
-        let [before, after, below, above] = self.links(row, column).map(i64::from);
+        let [before, after, below, above] = self.links(steps, row, column).map(i64::from);
         let weight = |inside: bool, at: usize| {
             if inside {
                 self.weights[at].into()
@@ -90,9 +100,10 @@ impl<'a> Numbers<'a> {
     }
 
     fn not_dominant(&self) -> Result<(), Refused> {
+        let steps = self.factors();
         for row in 1..=self.rows {
             for column in 1..=self.columns {
-                if self.dominance(row, column) < 1 {
+                if self.dominance(steps, row, column) < 1 {
                     return Err((9, (row - 1) * self.columns + column - 1));
                 }
             }
@@ -101,13 +112,13 @@ impl<'a> Numbers<'a> {
     }
 }
 
-/// Reads a file into the lent buffers; hands back head and wedge.
+/// Reads a file into the lent buffers; hands back head, wedge and steps.
 #[inline(never)]
 pub fn read(
     file: &[u8],
     weights: &mut [u16],
     thicknesses: &mut [u8],
-) -> Result<(Head, i32), Refused> {
+) -> Result<(Head, i32, Option<Steps>), Refused> {
     if weights.len() != 1_024 || thicknesses.len() != 1_156 {
         return Err((10, 0));
     }
@@ -119,7 +130,7 @@ pub fn read(
     test_thicknesses(gauged, cells)?;
     let wedge = long(body(file, 18 + 2 * cells + ringed, 5, 4)?) as i32;
     test_wedge(wedge, cells, ringed)?;
-    let end = 25 + 2 * cells + ringed;
+    let (steps, end) = optional_steps(file, 25 + 2 * cells + ringed)?;
     test(file.len() == end, 2, end)?;
     Numbers {
         rows,
@@ -128,11 +139,26 @@ pub fn read(
         weights: &found[..cells],
         thicknesses: gauged,
         wedge,
+        steps,
     }
     .not_dominant()?;
     weights[..cells].copy_from_slice(&found[..cells]);
     thicknesses[..ringed].copy_from_slice(gauged);
-    Ok((head(rows, columns, ceiling), wedge))
+    Ok((head(rows, columns, ceiling), wedge, steps))
+}
+
+/// The steps, if their tag stands behind the last required field, and where the file has to end.
+fn optional_steps(file: &[u8], at: usize) -> Result<(Option<Steps>, usize), Refused> {
+    if file.get(at) != Some(&0x0a) {
+        return Ok((None, at));
+    }
+    let body = body(file, at, 0x0a, 2)?;
+    let steps = Steps {
+        along: body[0].into(),
+        across: body[1].into(),
+    };
+    test_steps(steps, at + 3)?;
+    Ok((Some(steps), at + 5))
 }
 
 /// Fields 01 to 03, with which both kinds of film begin: rows, columns and ceiling; the weights go
@@ -203,6 +229,11 @@ fn test_wedge(wedge: i32, cells: usize, ringed: usize) -> Result<(), Refused> {
     test(passed, 8, 21 + 2 * cells + ringed)
 }
 
+fn test_steps(steps: Steps, at: usize) -> Result<(), Refused> {
+    test((1..=4).contains(&steps.along), 15, at)?;
+    test((1..=4).contains(&steps.across), 15, at + 1)
+}
+
 /// Forms the coefficients of a film's numbers in the lent slices.
 #[inline(never)]
 pub fn form(film: Numbers, lent: &mut Lent) -> Result<(), Refused> {
@@ -230,14 +261,18 @@ pub fn test_numbers(film: Numbers) -> Result<(), Refused> {
     test_weights(film.weights)?;
     test_thicknesses(film.thicknesses, cells)?;
     test_wedge(film.wedge, cells, ringed)?;
+    if let Some(steps) = film.steps {
+        test_steps(steps, 28 + 2 * cells + ringed)?;
+    }
     film.not_dominant()
 }
 
 fn fill(film: Numbers, lent: &mut Lent) {
+    let steps = film.factors();
     for row in 1..=film.rows {
         for column in 1..=film.columns {
             let cell = (row - 1) * film.columns + column - 1;
-            let formed = film.formed(row, column);
+            let formed = film.formed(steps, row, column);
             lent.diagonals[cell] = formed.diagonal;
             lent.rights[cell] = formed.right;
             lent.ups[cell] = formed.up;
@@ -253,7 +288,7 @@ pub fn report(file: &[u8], text: &mut String) -> Result<(), Refused> {
         return plain_coefficients::report(file, text);
     }
     let (mut weights, mut thicknesses) = ([0; 1_024], [0; 1_156]);
-    let (head, wedge) = read(file, &mut weights, &mut thicknesses)?;
+    let (head, wedge, steps) = read(file, &mut weights, &mut thicknesses)?;
     let (rows, columns, ceiling) = (head.rows as usize, head.columns as usize, head.ceiling);
     let cells = rows * columns;
     let film = Numbers {
@@ -263,6 +298,7 @@ pub fn report(file: &[u8], text: &mut String) -> Result<(), Refused> {
         weights: &weights[..cells],
         thicknesses: &thicknesses[..(rows + 2) * (columns + 2)],
         wedge,
+        steps,
     };
     let mut lent = Lent::new(cells);
     fill(film, &mut lent);

@@ -2,7 +2,7 @@
 -- each `film_run` and `film_propose` on it is a step (`run-step`, `propose-step`). So all that is claimed of lists of steps holds of them.
 use mathlib.Core.Path.{_≡_, refl, sym, ap, _∙_, subst}
 use mathlib.Core.Bool.{Bool}
-use mathlib.Core.List.{List}
+use mathlib.Core.List.{List, [], _∷_}
 use Prim.Native.Nat.{ℕ, _*_}
 use native.Mathlib.Omega.{arith}
 use lib.IntN.{ℤ}
@@ -18,12 +18,14 @@ use Rattle.model.specs.Demand.{ran, proposed, Kept, Claimed}
 use Rattle.model.specs.CoefficientFile.{filmIn}
 use Rattle.model.specs.CoefficientCalls.{filmHead, coefficientLoadCheck, LoadsCoefficients}
 use Rattle.model.specs.Session.{Session, fromGauge, fromCoefficients}
+use Rattle.model.specs.declared.Steps.{Steps}
+use Rattle.model.specs.declared.Steps.the-variants as variants
 use Rattle.model.proofs.Numbered.{run-numbered, row-numbered, load-numbered, coefficient-load-numbered}
 use Rattle.model.proofs.Session.{demand-3-calls}
 use Rattle.told.specs.Refused.{numberIn}
 use Rattle.tell.specs.Numbers.{runNumbers, RunTold, proposeNumbers, ProposeTold}
-use Rattle.tell_files.specs.Files.{LoadTold, HeadTold}
-use Rattle.archive.specs.Lent.{lentHead, lentFilm, Leaves, readAnswer, ReadTold, lentCoefficients, coefficientsAnswer, CoefficientsTold, FormTold}
+use Rattle.tell_files.specs.Files.{stepsNumbers, LoadTold, HeadTold}
+use Rattle.archive.specs.Lent.{lentHead, lentSteps, lentFilm, Leaves, readAnswer, ReadTold, lentCoefficients, coefficientsAnswer, CoefficientsTold, FormTold}
 
 -- a refusal's number is not 0, so that 0 is returned just where a call answered
 answered-0 : {A : Type 0} (tests : Check) (a : A) → Numbered tests → 0 ≡ numberIn (refusalIn (answerBy tests a)) → answerBy tests a ≡ answered a
@@ -57,33 +59,42 @@ module _ (f : Film) (entry : List ℕ) {exit : List ℕ} where
       let e = answered-0 (rowCheck f entry proposal line) made (row-numbered f entry proposal line) (L .told .told .number-is) in
       (made, L .told .result-is ∙ ap (λ a. proposeNumbers a result) e, record { answer-is = sym e; lent-is = L .lent-is })
 
+-- steps that were told are those that are lent from there
+steps-lent : (s : Steps) (old : List ℕ) → lentSteps (stepsNumbers s old) ≡ s
+steps-lent variants.Absent [] = refl
+steps-lent variants.Absent (x ∷ old) = refl
+steps-lent (variants.Given f) old = refl
+
 -- ---- a file for which `film_read` returned 0, and its coefficients, formed into slices of N by `film_form`
 
-module _ {bytes weights thicknesses head weights′ thicknesses′ head′ : List ℕ} {wedge wedge′ : ℤ} {place place′ : ℕ}
-    (R : ReadTold bytes weights thicknesses head wedge place 0 weights′ thicknesses′ head′ wedge′ place′) where
+module _ {bytes weights thicknesses head steps weights′ thicknesses′ head′ steps′ : List ℕ} {wedge wedge′ : ℤ} {place place′ : ℕ}
+    (R : ReadTold bytes weights thicknesses head wedge steps place 0 weights′ thicknesses′ head′ wedge′ steps′ place′) where
   read-answered : readAnswer bytes weights thicknesses ≡ answered (loadAnswer (gaugeIn bytes))
   read-answered =
       answered-0 (loadCheck bytes weights thicknesses) (loadAnswer (gaugeIn bytes)) (load-numbered bytes weights thicknesses) (R .told .told .number-is)
 
-  -- what it answered is what it wrote into head and wedge
-  read-numbers : LoadTold (answered (loadAnswer (gaugeIn bytes))) head wedge place 0 head′ wedge′ place′
-      → answered (loadAnswer (gaugeIn bytes)) ≡ answered (film (lentHead head′) wedge′)
-  read-numbers T = sym (λ k. answered (film (lentHead (T .head-is k)) (T .wedge-is k)))
+  -- what it answered is what it wrote into head, wedge and steps
+  read-numbers : LoadTold (answered (loadAnswer (gaugeIn bytes))) head wedge steps place 0 head′ wedge′ steps′ place′
+      → answered (loadAnswer (gaugeIn bytes)) ≡ answered (film (lentHead head′) wedge′ (lentSteps steps′))
+  read-numbers T =
+      let grid : lentSteps steps′ ≡ gaugeIn bytes .steps = ap lentSteps (T .steps-are) ∙ steps-lent (gaugeIn bytes .steps) steps in
+      sym (λ k. answered (film (lentHead (T .head-is k)) (T .wedge-is k) (grid k)))
 
-  read-loads : Loads bytes weights thicknesses (answered (film (lentHead head′) wedge′)) weights′ thicknesses′
+  read-loads : Loads bytes weights thicknesses (answered (film (lentHead head′) wedge′ (lentSteps steps′))) weights′ thicknesses′
   read-loads =
-      let e = read-answered ∙ read-numbers (subst (λ a. LoadTold a head wedge place 0 head′ wedge′ place′) read-answered (R .told)) in
+      let e = read-answered ∙ read-numbers (subst (λ a. LoadTold a head wedge steps place 0 head′ wedge′ steps′ place′) read-answered (R .told)) in
       subst (λ a. Loads bytes weights thicknesses a weights′ thicknesses′) e (R .loads)
 
   module _ {diagonals rights ups diagonals′ rights′ ups′ : List ℕ} {sources sources′ : List ℤ} {number at at′ : ℕ}
       (diagonals-len : length diagonals ≡ lentHead head′ .rows * lentHead head′ .columns) (rights-len : length rights ≡ lentHead head′ .rows * lentHead head′ .columns)
       (ups-len : length ups ≡ lentHead head′ .rows * lentHead head′ .columns) (sources-len : length sources ≡ lentHead head′ .rows * lentHead head′ .columns)
-      (F : FormTold (used (lentHead head′) wedge′ weights′ thicknesses′) diagonals rights ups sources at number diagonals′ rights′ ups′ sources′ at′) where
+      (F : FormTold (used (lentHead head′) wedge′ (lentSteps steps′) weights′ thicknesses′) diagonals rights ups sources at number diagonals′ rights′ ups′ sources′ at′) where
     pub session-told : Session bytes (lentFilm head′ weights′ diagonals′ rights′ ups′ sources′)
     session-told =
         fromGauge (record {
           head = lentHead head′;
           wedge = wedge′;
+          steps = lentSteps steps′;
           weights = weights;
           thicknesses = thicknesses;
           weights′ = weights′;

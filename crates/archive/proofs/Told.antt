@@ -8,6 +8,7 @@ use Rattle.model.specs.Result.{Answer, refusalIn, Result, Gives}
 use Rattle.model.specs.FileCalls.{gaugeOf, saveCall, LoadAnswer, Loads, Forms}
 use Rattle.model.specs.CoefficientCalls.{LoadsCoefficients, convertCall}
 use Rattle.model.specs.declared.Head.{Head}
+use Rattle.model.specs.declared.Steps.{Steps}
 use Rattle.told.specs.Refused.{Told}
 use Rattle.tell.specs.Numbers.{SlackTold, MarginTold}
 use Rattle.tell_files.specs.Files.{LoadTold, HeadTold}
@@ -24,16 +25,16 @@ leaves {Tells = Tells} gave told = record { told = subst Tells (gave .answer-is)
 
 -- the wedge number that the code hands on is the one that was lent
 pub save-by-wedge :
-    (h : Head) (weights thicknesses out : List ℕ) {w wedge : ℤ} {a : Answer (Unit {0})} {exit : List ℕ} → w ≡ wedge
-    → Gives (saveCall (gaugeOf h weights thicknesses w) out) a exit → Gives (saveCall (gaugeOf h weights thicknesses wedge) out) a exit
-save-by-wedge h weights thicknesses out {a = a} {exit = exit} e gave = subst (λ (z : ℤ). Gives (saveCall (gaugeOf h weights thicknesses z) out) a exit) e gave
+    (h : Head) (weights thicknesses : List ℕ) (s : Steps) (out : List ℕ) {w wedge : ℤ} {a : Answer (Unit {0})} {exit : List ℕ} → w ≡ wedge
+    → Gives (saveCall (gaugeOf h weights thicknesses w s) out) a exit → Gives (saveCall (gaugeOf h weights thicknesses wedge s) out) a exit
+save-by-wedge h weights thicknesses s out {a = a} {exit = exit} e gave = subst (λ (z : ℤ). Gives (saveCall (gaugeOf h weights thicknesses z s) out) a exit) e gave
 
 pub read-told :
-    {bytes w t w′ t′ h h′ : List ℕ} {a : Answer LoadAnswer} {z z′ : ℤ} {p n p′ : ℕ} →
-    Loads bytes w t a w′ t′ → LoadTold a h z p n h′ z′ p′ → ReadTold bytes w t h z p n w′ t′ h′ z′ p′
-read-told {h = h} {h′ = h′} {z = z} {z′ = z′} {p = p} {n = n} {p′ = p′} loads told =
+    {bytes w t w′ t′ h h′ k k′ : List ℕ} {a : Answer LoadAnswer} {z z′ : ℤ} {p n p′ : ℕ} →
+    Loads bytes w t a w′ t′ → LoadTold a h z k p n h′ z′ k′ p′ → ReadTold bytes w t h z k p n w′ t′ h′ z′ k′ p′
+read-told {h = h} {h′ = h′} {k = k} {k′ = k′} {z = z} {z′ = z′} {p = p} {n = n} {p′ = p′} loads told =
     record {
-      told = subst (λ (x : Answer LoadAnswer). LoadTold x h z p n h′ z′ p′) (loads .answer-is) told;
+      told = subst (λ (x : Answer LoadAnswer). LoadTold x h z k p n h′ z′ k′ p′) (loads .answer-is) told;
       loads = record { answer-is = refl; weights-are = loads .weights-are; thicknesses-are = loads .thicknesses-are };
     }
 
@@ -69,6 +70,6 @@ coefficients-told {h = h} {h′ = h′} {p = p} {n = n} {p′ = p′} loads told
     }
 
 pub convert-by-wedge :
-    (h : Head) (weights thicknesses out : List ℕ) {w wedge : ℤ} {a : Answer (Unit {0})} {exit : List ℕ} → w ≡ wedge
-    → Gives (convertCall (gaugeOf h weights thicknesses w) out) a exit → Gives (convertCall (gaugeOf h weights thicknesses wedge) out) a exit
-convert-by-wedge h weights thicknesses out {a = a} {exit = exit} e gave = subst (λ (z : ℤ). Gives (convertCall (gaugeOf h weights thicknesses z) out) a exit) e gave
+    (h : Head) (weights thicknesses : List ℕ) (s : Steps) (out : List ℕ) {w wedge : ℤ} {a : Answer (Unit {0})} {exit : List ℕ} → w ≡ wedge
+    → Gives (convertCall (gaugeOf h weights thicknesses w s) out) a exit → Gives (convertCall (gaugeOf h weights thicknesses wedge s) out) a exit
+convert-by-wedge h weights thicknesses s out {a = a} {exit = exit} e gave = subst (λ (z : ℤ). Gives (convertCall (gaugeOf h weights thicknesses z s) out) a exit) e gave

@@ -1,7 +1,9 @@
 -- A film as a caller in C hands it over, and what a call with lent slices leaves.
 use mathlib.Core.Path.{_≡_}
+use mathlib.Core.Bool.{cond}
 use mathlib.Core.List.{List}
 use Prim.Native.Nat.{ℕ, _*_}
+use lib.Dec.{eqb}
 use lib.IntN.{ℤ}
 use lib.ListN.{getD, take}
 use Rattle.model.specs.Gauge.{Gauge}
@@ -12,12 +14,18 @@ use Rattle.model.specs.FileCalls.{LoadAnswer, Forms, Loads, formCheck, loadAnsw
 use Rattle.model.specs.CoefficientFile.{filmIn}
 use Rattle.model.specs.CoefficientCalls.{filmHead, coefficientLoadCheck, LoadsCoefficients, usedFilm}
 use Rattle.model.specs.declared.Head.{Head}
+use Rattle.model.specs.declared.Steps.{Steps}
+use Rattle.model.specs.declared.Steps.the-variants as variants
 use Rattle.told.specs.Refused.{Told}
 use Rattle.tell_files.specs.Files.{LoadTold, HeadTold}
 
 -- a head as it is lent: rows, columns, ceiling
 abbrev pub lentHead : List ℕ → Head
 lentHead head = record { rows = getD head 0 0; columns = getD head 1 0; ceiling = getD head 2 0 }
+
+-- steps as they are lent: 0 where the film has no field for them, and else any number; along; across
+abbrev pub lentSteps : List ℕ → Steps
+lentSteps steps = cond (eqb (getD steps 0 0) 0) variants.Absent (variants.Given (record { along = getD steps 1 0; across = getD steps 2 0 }))
 
 -- the film that runs and proposals are lent: a head, the weights at the start of the reader's buffer, and formed coefficients
 abbrev pub lentFilm : List ℕ → List ℕ → List ℕ → List ℕ → List ℕ → List ℤ → Film
@@ -33,9 +41,9 @@ pub record Leaves {A : Type 0} (call : Result A) (Tells : A → Type 0) (exit : 
 abbrev pub readAnswer : List ℕ → List ℕ → List ℕ → Answer LoadAnswer
 readAnswer bytes weights thicknesses = answerBy (loadCheck bytes weights thicknesses) (loadAnswer (gaugeIn bytes))
 
-pub record ReadTold (bytes weights thicknesses head : List ℕ) (wedge : ℤ) (place number : ℕ) (weights′ thicknesses′ head′ : List ℕ) (wedge′ : ℤ) (place′ : ℕ)
+pub record ReadTold (bytes weights thicknesses head : List ℕ) (wedge : ℤ) (steps : List ℕ) (place number : ℕ) (weights′ thicknesses′ head′ : List ℕ) (wedge′ : ℤ) (steps′ : List ℕ) (place′ : ℕ)
     : Type 0 where
-  pub told : LoadTold (readAnswer bytes weights thicknesses) head wedge place number head′ wedge′ place′
+  pub told : LoadTold (readAnswer bytes weights thicknesses) head wedge steps place number head′ wedge′ steps′ place′
   pub loads : Loads bytes weights thicknesses (readAnswer bytes weights thicknesses) weights′ thicknesses′
 
 -- the film that runs and proposals are lent of a coefficient film that was read: the numbers at the starts of the reader's buffers

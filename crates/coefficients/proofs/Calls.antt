@@ -9,12 +9,13 @@ use lib.Dec.{eqb}
 use lib.IntN.{ℤ}
 use lib.ListN.{length, take}
 use lib.Seq.{take-all}
-use Rattle.model.specs.Gauge.{Gauge}
+use Rattle.model.specs.Gauge.{Gauge, factorsOf, Stepped}
 use Rattle.model.specs.Refusals.{Check, pass, fail}
 use Rattle.model.specs.File.{cells, gaugeCheck}
 use Rattle.model.specs.Result.{answered, refused}
 use Rattle.model.specs.FileCalls.{gaugeOf, gaugeFits, formCheck, Forms}
 use Rattle.model.specs.declared.Head.{Head}
+use Rattle.model.specs.declared.Steps.{Steps}
 use Rattle.model.proofs.Checks.{and-parts}
 use Rattle.forming.specs.Cell.{Ringed, Room, Forming}
 use Rattle.gauge.proofs.Tests.{measured-ringed, gauge-measured}
@@ -30,9 +31,9 @@ pub record Unchanged (diagonals rights ups : List ℕ) (sources : List ℤ) (dia
   pub ups-kept : length ups′ ≡ length ups
   pub sources-kept : length sources′ ≡ length sources
 
-module _ (h : Head) (weights thicknesses : List ℕ) (wedge : ℤ) (diagonals rights ups : List ℕ) (sources : List ℤ) where
+module _ (h : Head) (weights thicknesses : List ℕ) (wedge : ℤ) (steps : Steps) (diagonals rights ups : List ℕ) (sources : List ℤ) where
   abbrev pub g : Gauge
-  g = gaugeOf h weights thicknesses wedge
+  g = gaugeOf h weights thicknesses wedge steps
 
   -- each of the four slices has n places
   abbrev pub fourHave : ℕ → Bool
@@ -43,7 +44,7 @@ module _ (h : Head) (weights thicknesses : List ℕ) (wedge : ℤ) (diagonals ri
 
   -- the tests, from what they found of the numbers as the code has them
   pub form-tested : {r : Check} {n : ℕ} {w : ℤ} → n ≡ cells (g .rows) (g .columns) → w ≡ wedge
-      → r ≡ gaugeCheck (gaugeOf h weights thicknesses w) (gaugeFits (gaugeOf h weights thicknesses w) && fourHave n)
+      → r ≡ gaugeCheck (gaugeOf h weights thicknesses w steps) (gaugeFits (gaugeOf h weights thicknesses w steps) && fourHave n)
       → r ≡ formCheck g diagonals rights ups sources
   form-tested n w e = (rw (n, w) at e) ∙ ap (gaugeCheck g) (simp and-assoc)
 
@@ -70,10 +71,11 @@ module _ (h : Head) (weights thicknesses : List ℕ) (wedge : ℤ) (diagonals ri
         }
 
     -- what forming asks
-    pub form-ready : Ringed (g .rows) (g .columns) (g .thicknesses) × Room (cells (g .rows) (g .columns)) diagonals rights ups sources
+    pub form-ready : (Ringed (g .rows) (g .columns) (g .thicknesses) × Stepped (factorsOf steps)) × Room (cells (g .rows) (g .columns)) diagonals rights ups sources
     form-ready =
-        let l = lengths in (
-          measured-ringed (gauge-measured g fourFit tests .0),
+        let l = lengths in
+        let m = gauge-measured g fourFit tests in (
+          (measured-ringed (m .0), m .2),
           record {
             diagonals-room = omega (arith, l .diagonals-len);
             rights-room = omega (arith, l .rights-len);
@@ -83,7 +85,7 @@ module _ (h : Head) (weights thicknesses : List ℕ) (wedge : ℤ) (diagonals ri
         )
 
     -- all is written, ..
-    pub form-written : {diagonals′ rights′ ups′ : List ℕ} {sources′ : List ℤ} → Forming (gaugeOf h [] thicknesses wedge) diagonals′ rights′ ups′ sources′
+    pub form-written : {diagonals′ rights′ ups′ : List ℕ} {sources′ : List ℤ} → Forming (gaugeOf h [] thicknesses wedge steps) diagonals′ rights′ ups′ sources′
         → Unchanged diagonals rights ups sources diagonals′ rights′ ups′ sources′
         → Forms g diagonals rights ups sources (answered tt) diagonals′ rights′ ups′ sources′
     form-written {diagonals′} {rights′} {ups′} {sources′} b k =

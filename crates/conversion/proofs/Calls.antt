@@ -8,7 +8,7 @@ use lib.Dec.{eqb}
 use lib.IntN.{ℤ}
 use lib.ListN.{length}
 use Rattle.model.specs.Refusals.{Check, pass, fail}
-use Rattle.model.specs.Gauge.{Gauge}
+use Rattle.model.specs.Gauge.{Gauge, factorsOf, Stepped}
 use Rattle.model.specs.Coefficients.{formed}
 use Rattle.model.specs.Checks.{shapeCheck}
 use Rattle.model.specs.Result.{answered, refused, Gives}
@@ -17,6 +17,7 @@ use Rattle.model.specs.FileCalls.{gaugeOf, gaugeFits}
 use Rattle.model.specs.CoefficientFile.{coefficientEnd, coefficientFileOf}
 use Rattle.model.specs.CoefficientCalls.{convertCheck, convertCall}
 use Rattle.model.specs.declared.Head.{Head}
+use Rattle.model.specs.declared.Steps.{Steps}
 use Rattle.model.proofs.File.{gauge-shape}
 use Rattle.model.proofs.Lists.{tabulate-length}
 use Rattle.refusals.proofs.Chain.{orElse-given}
@@ -27,23 +28,23 @@ use Rattle.coefficient_writing.proofs.Film.{length-known}
 
 -- the tests, from what they found of the numbers as the code has them: where the shape has passed, the length that was asked for is that of the film's
 -- file
-pub convert-tested : (h : Head) (weights thicknesses : List ℕ) (wedge : ℤ) (out : List ℕ) {r : Check} {n : ℕ} {w : ℤ} → n ≡ coefficientLength (h .rows) (h .columns)
+pub convert-tested : (h : Head) (weights thicknesses : List ℕ) (wedge : ℤ) (steps : Steps) (out : List ℕ) {r : Check} {n : ℕ} {w : ℤ} → n ≡ coefficientLength (h .rows) (h .columns)
     → w ≡ wedge
-    → r ≡ gaugeCheck (gaugeOf h weights thicknesses w) (gaugeFits (gaugeOf h weights thicknesses w) && eqb (length out) n)
-    → r ≡ convertCheck (gaugeOf h weights thicknesses wedge) out
+    → r ≡ gaugeCheck (gaugeOf h weights thicknesses w steps) (gaugeFits (gaugeOf h weights thicknesses w steps) && eqb (length out) n)
+    → r ≡ convertCheck (gaugeOf h weights thicknesses wedge steps) out
 unfolding gaugeCheck
-convert-tested h weights thicknesses wedge out n w e =
-    let g = gaugeOf h weights thicknesses wedge in
+convert-tested h weights thicknesses wedge steps out n w e =
+    let g = gaugeOf h weights thicknesses wedge steps in
     (rw (n, w) at e)
     ∙ orElse-given (shapeCheck (g .rows) rowsOffset (g .columns) columnsOffset)
     (λ e. let s = gauge-shape g e in rw (length-known (g .rows) (g .columns) (s .rows-low) (s .columns-low)))
 
 module _ (g : Gauge) (out : List ℕ) where
   -- what passes can be formed, and its file fills the slice
-  pub convert-ready : convertCheck g out ≡ pass → Measured g × (length out ≡ coefficientEnd (cells (g .rows) (g .columns)))
+  pub convert-ready : convertCheck g out ≡ pass → Measured g × (length out ≡ coefficientEnd (cells (g .rows) (g .columns))) × Stepped (factorsOf (g .steps))
   convert-ready e =
       let m = gauge-measured g (eqb (length out) (coefficientEnd (cells (g .rows) (g .columns)))) e in
-      (m .0, eqb-true _ _ (m .1))
+      (m .0, eqb-true _ _ (m .1), m .2)
 
   pub formed-writable : Measured g → length out ≡ coefficientEnd (cells (g .rows) (g .columns)) → Writable (formed g) out
   formed-writable m e =

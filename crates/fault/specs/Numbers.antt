@@ -18,3 +18,4 @@ numberOf faults.BadOrder = 11  -- order
 numberOf faults.StartAboveCeiling = 12  -- start
 numberOf faults.OutOfGrid = 13  -- line
 numberOf faults.BadCoefficient = 14  -- coefficient
+numberOf faults.BadStep = 15  -- a step (document 02, W2)

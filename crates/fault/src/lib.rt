@@ -1,4 +1,4 @@
-// Why a call is refused, and the refusal's number in document 01's table (specs/Numbers). A crate of its own below `model`, so that what is
+// Why a call is refused, and the refusal's number in the documents' tables (specs/Numbers). A crate of its own below `model`, so that what is
 // checked there anew for each must-fail edit of a definition is definitions and their laws alone.
 ghost use mathlib.Core.Path.{_≡_};
 ghost use Rattle.fault.specs.Numbers.{numberOf};
@@ -18,6 +18,7 @@ pub enum Fault {
     StartAboveCeiling,
     OutOfGrid,
     BadCoefficient,
+    BadStep,
 }
 
 impl Fault {
@@ -40,6 +41,7 @@ impl Fault {
             Fault::StartAboveCeiling => 12,
             Fault::OutOfGrid => 13,
             Fault::BadCoefficient => 14,
+            Fault::BadStep => 15,
         }
     }
 }

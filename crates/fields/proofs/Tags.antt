@@ -10,7 +10,7 @@ use lib.ListN.{length}
 use Rattle.model.specs.Refusals.{Check, pass, checkOf, _orElse_, failIf}
 use Rattle.model.specs.Bytes.{byteAt, wordAt}
 use Rattle.model.specs.Fields.{Field, body, behind, fieldAt}
-use Rattle.model.specs.File.{shapeField, ceilingField, weightsField, thicknessesField, wedgeField}
+use Rattle.model.specs.File.{shapeField, ceilingField, weightsField, thicknessesField, wedgeField, stepsField}
 use Rattle.model.specs.CoefficientFile.{diagonalsField, rightsField, upsField, sourcesField}
 use Rattle.model.specs.declared.Refusal.{Refusal}
 use Rattle.model.specs.declared.Tested.{Tested}
@@ -31,7 +31,7 @@ size-low tag n t h l =
     (either-low (eqb tag 3) (weightsField n) _ (omega arith) (either-low (eqb tag 4) (thicknessesField t) _ (omega arith)
     (either-low (eqb tag 5) wedgeField _ (omega arith) (either-low (eqb tag 6) (diagonalsField n) _ (omega arith)
     (either-low (eqb tag 7) (rightsField n) _ (omega arith) (either-low (eqb tag 8) (upsField n) _ (omega arith)
-    (either-low (eqb tag 9) (sourcesField n) _ (omega arith) (omega arith)))))))))
+    (either-low (eqb tag 9) (sourcesField n) _ (omega arith) (either-low (eqb tag 10) stepsField _ (omega arith) (omega arith))))))))))
 
 -- A field from the test h of its header: where that passes, the values are tested and the next field stands behind this one; where it
 -- refuses, nothing else counts.
@@ -43,7 +43,7 @@ module _ (f : Field) {l : List ℕ} {at tag : ℕ} {h : Tested} (found : checkOf
   field-refused e = record { finds = refuses found _ e; goes-on = λ p. cc }
 
 -- The test of a field depends on its length and on the test of its values alone. So that of a plain field is that of every field with its
--- length whose values are not tested: those of tags 6, 7 and 8, and what stands for any tag above 9.
+-- length whose values are not tested: those of tags 6, 7 and 8, and what stands for any tag above 10.
 module _ (n t : ℕ) {l : List ℕ} {at tag : ℕ} {w : Walked} where
   long-tried : (j : ℕ) → j < 3 → Tries (plainField (4 * n)) tag l at w → Tries (fieldFor (6 + j) n t) tag l at w
   long-tried zero h T = record { finds = T .finds; goes-on = T .goes-on }
@@ -56,7 +56,7 @@ module _ (n t : ℕ) {l : List ℕ} {at tag : ℕ} {w : Walked} where
       let same : 6 + (k - 6) ≡ k = omega arith in
       subst (λ (m : ℕ). Tries (fieldFor m n t) tag l at w) same (long-tried (k - 6) (omega arith) T)
 
-  pub unknown-tried : (k : ℕ) → 9 < k → Tries unknown tag l at w → Tries (fieldFor k n t) tag l at w
+  pub unknown-tried : (k : ℕ) → 10 < k → Tries unknown tag l at w → Tries (fieldFor k n t) tag l at w
   unknown-tried k h T =
       rw (
         other 1 (omega arith),
@@ -68,9 +68,10 @@ module _ (n t : ℕ) {l : List ℕ} {at tag : ℕ} {w : Walked} where
         other 7 (omega arith),
         other 8 (omega arith),
         other 9 (omega arith),
+        other 10 (omega arith),
       ) T
     where
-      other : (j : ℕ) → j ≤ 9 → eqb k j ≡ false
+      other : (j : ℕ) → j ≤ 10 → eqb k j ≡ false
       other j b = ne-eqb k j (λ e. omega (arith, e))
 
 -- What is tested may be the field of the byte that stands there: where that is not the tag that should, it is refused before its length or

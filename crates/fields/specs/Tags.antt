@@ -6,7 +6,7 @@ use Prim.Native.Nat.{ℕ, _≤_}
 use lib.Dec.{eqb}
 use Rattle.model.specs.Refusals.{Check, pass, _orElse_, checkOf}
 use Rattle.model.specs.Fields.{Field, body, behind, fieldAt}
-use Rattle.model.specs.File.{shapeField, ceilingField, weightsField, thicknessesField, wedgeField}
+use Rattle.model.specs.File.{shapeField, ceilingField, weightsField, thicknessesField, wedgeField, stepsField}
 use Rattle.model.specs.CoefficientFile.{diagonalsField, rightsField, upsField, sourcesField}
 use Rattle.fields.specs.declared.Walked.{Walked}
 
@@ -25,7 +25,8 @@ fieldFor tag n t =
     (cond (eqb tag 4) (thicknessesField t)
     (cond (eqb tag 5) wedgeField
     (cond (eqb tag 6) (diagonalsField n)
-    (cond (eqb tag 7) (rightsField n) (cond (eqb tag 8) (upsField n) (cond (eqb tag 9) (sourcesField n) unknown))))))))
+    (cond (eqb tag 7) (rightsField n) (cond (eqb tag 8) (upsField n)
+    (cond (eqb tag 9) (sourcesField n) (cond (eqb tag 10) stepsField unknown)))))))))
 
 -- a field at an offset where that tag should stand: header and values
 abbrev pub testOf : Field → ℕ → List ℕ → ℕ → Check

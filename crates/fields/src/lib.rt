@@ -6,7 +6,7 @@
 // behind this one (`Tries`), at every offset of every file. Values are tested once the whole body is there (crate `values`); so no file that
 // is cut short needs a case of its own.
 ghost use Prim.Native.Nat.{_≤_};
-ghost use Rattle.model.specs.File.{shapeField, ceilingField, weightsField, thicknessesField, wedgeField};
+ghost use Rattle.model.specs.File.{shapeField, ceilingField, weightsField, thicknessesField, wedgeField, stepsField};
 ghost use Rattle.fields.specs.Tags.{plainField, fieldFor, Tries, Room};
 use model::Tested;
 
@@ -22,6 +22,8 @@ const SHAPE_LENGTH: usize = 2;
 const CEILING_LENGTH: usize = 4;
 
 const WEDGE_LENGTH: usize = 4;
+
+const STEPS_LENGTH: usize = 2;
 
 // Field 01 at `at`, where that tag should stand: header and, where that passes, values.
 fn shape_field(file: &[u8], at: usize, tag: u8) -> Walked
@@ -108,6 +110,23 @@ fn wedge_field(file: &[u8], at: usize, tag: u8) -> Walked
     }
 }
 
+// Field 0A.
+fn steps_field(file: &[u8], at: usize, tag: u8) -> Walked
+    requires { ⌜ at ≤ 5000000 ⌝ }
+    ensures { λ w. ⌜ Tries stepsField tag (now (file .entry)) at w ⌝ }
+{
+    match headers::header_test(file, at, tag, STEPS_LENGTH) {
+        Tested::Fine => Walked {
+            tested: values::steps_values(file, at + 3),
+            next: at + 3 + STEPS_LENGTH,
+        },
+        Tested::Refused(r) => Walked {
+            tested: Tested::Refused(r),
+            next: at,
+        },
+    }
+}
+
 // A field of so many bytes whose values are not tested where they stand: fields 06 to 09, since coefficients are tested once all of them
 // are there. A byte that no field has as its tag is tested as one of 0 bytes.
 fn plain_field(file: &[u8], at: usize, tag: u8, size: usize) -> Walked
@@ -133,6 +152,7 @@ pub fn field_test(file: &[u8], at: usize, tag: u8, n: usize, t: usize) -> Walked
         5 => wedge_field(file, at, tag),
         6..=8 => plain_field(file, at, tag, 4 * n),
         9 => plain_field(file, at, tag, 8 * n),
-        0 | 10..=255 => plain_field(file, at, tag, 0),
+        10 => steps_field(file, at, tag),
+        0 | 11..=255 => plain_field(file, at, tag, 0),
     }
 }

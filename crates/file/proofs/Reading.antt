@@ -7,7 +7,8 @@ use borrow.Author.Tests.{eqb-true, not-false}
 use lib.Dec.{eqb}
 use lib.ListN.{length}
 use Rattle.model.specs.Refusals.{Check, pass, fail, _orElse_, failIf}
-use Rattle.model.specs.File.{gauged, cellsIn, ringIn, gaugeIn, gaugeDominance, fieldsCheck, fileCheck}
+use Rattle.model.specs.Fields.{fieldsIn}
+use Rattle.model.specs.File.{gauged, gaugedOptional, cellsIn, ringIn, gaugeIn, gaugeDominance, fieldsCheck, fileCheck}
 use Rattle.model.specs.Result.{Answer, refused}
 use Rattle.model.specs.FileCalls.{LoadAnswer, loadCheck, Loads}
 use Rattle.model.proofs.Checks.{and-parts, orElse-assoc, orElse-parts, failIf-pass}
@@ -17,7 +18,7 @@ use Rattle.reading.specs.Reading.{LoadsBy}
 abbrev pub opening : List ℕ → List ℕ → List ℕ → Check
 opening bytes weights thicknesses =
     failIf (not (eqb (length weights) 1024 && eqb (length thicknesses) 1156)) 10 0
-    orElse fieldsCheck (gauged (cellsIn bytes) (ringIn bytes)) bytes
+    orElse fieldsCheck (fieldsIn (gauged (cellsIn bytes) (ringIn bytes)) gaugedOptional bytes) bytes
 
 load-parts : (bytes weights thicknesses : List ℕ)
     → loadCheck bytes weights thicknesses ≡ (opening bytes weights thicknesses orElse gaugeDominance (gaugeIn bytes))
@@ -29,7 +30,7 @@ load-parts bytes weights thicknesses =
 pub record Opened (bytes weights thicknesses : List ℕ) : Type 0 where
   pub weights-len : length weights ≡ 1024
   pub thicknesses-len : length thicknesses ≡ 1156
-  pub fields : fieldsCheck (gauged (cellsIn bytes) (ringIn bytes)) bytes ≡ pass
+  pub fields : fieldsCheck (fieldsIn (gauged (cellsIn bytes) (ringIn bytes)) gaugedOptional bytes) bytes ≡ pass
 
 pub opening-passes : (bytes weights thicknesses : List ℕ) → opening bytes weights thicknesses ≡ pass → Opened bytes weights thicknesses
 opening-passes bytes weights thicknesses e =

@@ -6,22 +6,31 @@
 ghost use mathlib.Core.Path.{_≡_};
 ghost use Rattle.model.specs.Refusals.{checkOf};
 ghost use Rattle.model.specs.Result.{Gives};
-ghost use Rattle.model.specs.File.{gauged, cellsIn, ringIn, fieldsCheck};
+ghost use Rattle.model.specs.Fields.{fieldsIn};
+ghost use Rattle.model.specs.File.{gauged, gaugedOptional, cellsIn, ringIn, fieldsCheck};
 ghost use Rattle.model.specs.FileCalls.{gaugeOf, saveCall, saveAnswerOf, Loads, loadAnswerOf};
 use fault::Fault;
 use model::Head;
 use model::Loaded;
 use model::Saved;
+use model::Steps;
 use model::Tested;
 
 // Writes the film file of a film's numbers into a lent slice of exactly its length.
-pub fn write(head: Head, weights: &[u16], thicknesses: &[u8], wedge: i32, out: &mut [u8]) -> Saved
-    ensures { λ r. ⌜ Gives (saveCall (gaugeOf head (now (weights .entry)) (now (thicknesses .entry)) wedge) (now (out .entry))) (saveAnswerOf r) (now (out .exit)) ⌝ }
+pub fn write(
+    head: Head,
+    weights: &[u16],
+    thicknesses: &[u8],
+    wedge: i32,
+    steps: Steps,
+    out: &mut [u8],
+) -> Saved
+    ensures { λ r. ⌜ Gives (saveCall (gaugeOf head (now (weights .entry)) (now (thicknesses .entry)) wedge steps) (now (out .entry))) (saveAnswerOf r) (now (out .exit)) ⌝ }
 {
-    let fits = out.len() == writing::file_length(head.rows, head.columns);
-    match gauge::gauge_tests(head, weights, thicknesses, wedge, fits) {
+    let fits = out.len() == writing::file_length(head.rows, head.columns, steps);
+    match gauge::gauge_tests(head, weights, thicknesses, wedge, steps, fits) {
         Tested::Fine => {
-            writing::put_film(head, weights, thicknesses, wedge, out);
+            writing::put_film(head, weights, thicknesses, wedge, steps, out);
             Saved::Written
         }
         Tested::Refused(r) => Saved::Refused(r),
@@ -31,7 +40,7 @@ pub fn write(head: Head, weights: &[u16], thicknesses: &[u8], wedge: i32, out: &
 // The tests of a file's fields, and that nothing follows them. How many weights and thicknesses there should be is what the shape says that
 // stands in the file: its own test comes before theirs.
 fn fields_test(file: &[u8]) -> Tested
-    ensures { λ r. ⌜ checkOf r ≡ fieldsCheck (gauged (cellsIn (now (file .entry))) (ringIn (now (file .entry)))) (now (file .entry)) ⌝ }
+    ensures { λ r. ⌜ checkOf r ≡ fieldsCheck (fieldsIn (gauged (cellsIn (now (file .entry))) (ringIn (now (file .entry)))) gaugedOptional (now (file .entry))) (now (file .entry)) ⌝ }
 {
     let rows = words::numbers::byte_at(file, 3) as u32;
     let columns = words::numbers::byte_at(file, 4) as u32;

@@ -10,7 +10,7 @@ ghost use Rattle.model.specs.Film.{filmOf};
 ghost use Rattle.model.specs.FileCalls.{gaugeOf};
 ghost use Rattle.model.specs.CoefficientCalls.{coefficientSaveCall, convertCall};
 ghost use Rattle.told.specs.Refused.{Told};
-ghost use Rattle.archive.specs.Lent.{lentHead, Leaves, CoefficientsTold};
+ghost use Rattle.archive.specs.Lent.{lentHead, lentSteps, Leaves, CoefficientsTold};
 
 // Reads a coefficient film file, and its head.
 #[no_mangle]
@@ -56,12 +56,14 @@ pub extern "C" fn film_convert(
     weights: &[u16],
     thicknesses: &[u8],
     wedge: i32,
+    steps: &[u32; 3],
     out: &mut [u8],
     place: &mut usize,
 ) -> u32
-    ensures { λ r. ⌜ Leaves (convertCall (gaugeOf (lentHead (now (head .entry))) (now (weights .entry)) (now (thicknesses .entry)) wedge) (now (out .entry))) (λ a. Told (refusalIn a) (now (place .entry)) r (now (place .exit))) (now (out .exit)) ⌝ }
+    ensures { λ r. ⌜ Leaves (convertCall (gaugeOf (lentHead (now (head .entry))) (now (weights .entry)) (now (thicknesses .entry)) wedge (lentSteps (now (steps .entry)))) (now (out .entry))) (λ a. Told (refusalIn a) (now (place .entry)) r (now (place .exit))) (now (out .exit)) ⌝ }
 {
     let head = archive::head_of(head);
-    let answer = conversion::convert(head, weights, thicknesses, wedge, out);
+    let steps = archive::steps_of(steps);
+    let answer = conversion::convert(head, weights, thicknesses, wedge, steps, out);
     tell_files::write(answer, place)
 }

@@ -6,6 +6,7 @@ use model::Head;
 use model::LoadedCoefficients;
 use model::Refusal;
 use model::Saved;
+use model::Steps;
 
 // Film F: 1 row, 2 columns, ceiling 100, weights 1 1, ring rows all 1, middle row 3 2 1 1, wedge 100. Its coefficient film has 71 bytes.
 const WEIGHTS: [u16; 2] = [1, 1];
@@ -76,7 +77,7 @@ fn convert(thickness: u8, out: &mut [u8]) {
     let mut thicknesses = THICKNESSES;
     thicknesses[4] = thickness;
     text(b"CONVERT");
-    saved(conversion::convert(HEAD, &WEIGHTS, &thicknesses, 100, out));
+    saved(conversion::convert(HEAD, &WEIGHTS, &thicknesses, 100, Steps::Absent, out));
     text(b" :");
     octets(&out[..]);
 }

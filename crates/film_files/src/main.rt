@@ -1,8 +1,8 @@
 // Reads the film files that its arguments name, and prints for each the refusal, or the film, its coefficients, and whether
-// writing what was read gives the file's own bytes. data/ has valid files of several sizes, each refusal 1 to 9 at several
-// places, and files with two faults.
+// writing what was read gives the file's own bytes. data/ has valid files of several sizes, with grid steps and without, each refusal 1 to 9
+// and 15 at several places, and files with two faults.
 //
-// data/, args and stdout are written by tests/film_files.py, from document 01 alone: it shares no line with this program, works
+// data/, args and stdout are written by tests/film_files.py, from documents 01 and 02 alone: it shares no line with this program, works
 // in Python's whole numbers, and each faulty file carries its refusal's number and place written by hand.
 use libc::STDOUT_FILENO;
 use model::Formed;
@@ -10,6 +10,7 @@ use model::Head;
 use model::Loaded;
 use model::Refusal;
 use model::Saved;
+use model::Steps;
 
 fn text(bytes: &[u8]) {
     io::write_all(STDOUT_FILENO, bytes);
@@ -70,6 +71,7 @@ fn coefficients_in(
     weights: &[u16],
     thicknesses: &[u8],
     wedge: i32,
+    steps: Steps,
     diagonals: &mut [u32],
     rights: &mut [u32],
     ups: &mut [u32],
@@ -80,6 +82,7 @@ fn coefficients_in(
         weights,
         thicknesses,
         wedge,
+        steps,
         diagonals,
         rights,
         ups,
@@ -95,7 +98,7 @@ fn coefficients_in(
     }
 }
 
-fn coefficients(head: Head, weights: &[u16], thicknesses: &[u8], wedge: i32) {
+fn coefficients(head: Head, weights: &[u16], thicknesses: &[u8], wedge: i32, steps: Steps) {
     let n = weights.len();
     let mut diagonals = [0u32; 1024];
     let mut rights = [0u32; 1024];
@@ -107,6 +110,7 @@ fn coefficients(head: Head, weights: &[u16], thicknesses: &[u8], wedge: i32) {
             weights,
             thicknesses,
             wedge,
+            steps,
             &mut diagonals[..n],
             &mut rights[..n],
             &mut ups[..n],
@@ -120,10 +124,11 @@ fn write_back(
     weights: &[u16],
     thicknesses: &[u8],
     wedge: i32,
+    steps: Steps,
     file: &[u8],
     out: &mut [u8],
 ) {
-    match file::write(head, weights, thicknesses, wedge, out) {
+    match file::write(head, weights, thicknesses, wedge, steps, out) {
         Saved::Written => {
             if check::same(file, &out[..]) {
                 text(b"WRITES BACK THE SAME\n");
@@ -135,23 +140,45 @@ fn write_back(
     }
 }
 
-fn film(head: Head, weights: &[u16], thicknesses: &[u8], wedge: i32, file: &[u8]) {
+// A film's grid steps, where it has a field for them.
+fn grid(steps: Steps) {
+    match steps {
+        Steps::Absent => {}
+        Steps::Given(factors) => {
+            text(b" ALONG");
+            number(factors.along);
+            text(b" ACROSS");
+            number(factors.across);
+        }
+    }
+}
+
+fn film(head: Head, weights: &[u16], thicknesses: &[u8], wedge: i32, steps: Steps, file: &[u8]) {
     text(b"FILM");
     number(head.rows);
     number(head.columns);
     number(head.ceiling);
     signed_number(wedge);
+    grid(steps);
     text(b"\n");
-    coefficients(head, weights, thicknesses, wedge);
+    coefficients(head, weights, thicknesses, wedge, steps);
     let n = file.len();
     let mut out = io::buffer();
     if n <= 4096 {
-        write_back(head, weights, thicknesses, wedge, file, &mut out[..n]);
+        write_back(
+            head,
+            weights,
+            thicknesses,
+            wedge,
+            steps,
+            file,
+            &mut out[..n],
+        );
     }
 }
 
 // The parts of the buffers that the film uses. What the reader accepts is within all these bounds.
-fn used(head: Head, weights: &[u16], thicknesses: &[u8], wedge: i32, file: &[u8]) {
+fn used(head: Head, weights: &[u16], thicknesses: &[u8], wedge: i32, steps: Steps, file: &[u8]) {
     if head.rows > 32 {
         return;
     }
@@ -166,12 +193,19 @@ fn used(head: Head, weights: &[u16], thicknesses: &[u8], wedge: i32, file: &[u8]
     if t > thicknesses.len() {
         return;
     }
-    film(head, &weights[..n], &thicknesses[..t], wedge, file);
+    film(head, &weights[..n], &thicknesses[..t], wedge, steps, file);
 }
 
 fn film_in(file: &[u8], weights: &mut [u16], thicknesses: &mut [u8]) {
     match file::read(file, weights, thicknesses) {
-        Loaded::Film(head, wedge) => used(head, &weights[..], &thicknesses[..], wedge, file),
+        Loaded::Film(head, wedge, steps) => used(
+            head,
+            &weights[..],
+            &thicknesses[..],
+            wedge,
+            steps,
+            file,
+        ),
         Loaded::Refused(r) => refused(r),
     }
 }

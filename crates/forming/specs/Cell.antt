@@ -7,7 +7,7 @@ use lib.IntN.{ℤ}
 use lib.ListN.{length, take}
 use Rattle.model.specs.Limits.{sideLimit}
 use Rattle.model.specs.Lists.{tabulate}
-use Rattle.model.specs.Gauge.{Gauge, thicknessAt}
+use Rattle.model.specs.Gauge.{Gauge, thicknessAt, factorsOf}
 use Rattle.model.specs.Coefficients.{formedDiagonal, formedRight, formedUp, formedSource, byCell}
 use Rattle.model.specs.File.{cells, ringed}
 use Rattle.stencil.specs.Cell.{coefficientsOf}
@@ -27,7 +27,7 @@ aroundOf g r c =
 
 -- the coefficients of cell (r, c)
 abbrev pub coefficientsAt : Gauge → ℕ → ℕ → Coefficients
-coefficientsAt g r c = coefficientsOf (aroundOf g r c) (g .wedge) (ltb c (g .columns)) (ltb r (g .rows))
+coefficientsAt g r c = coefficientsOf (aroundOf g r c) (factorsOf (g .steps)) (g .wedge) (ltb c (g .columns)) (ltb r (g .rows))
 
 -- a shape that has passed its test, with a thickness for each place of the grid and its ring
 pub record Ringed (rows columns : ℕ) (thicknesses : List ℕ) : Type 0 where

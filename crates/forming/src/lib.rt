@@ -1,12 +1,14 @@
-// The coefficients that thicknesses and wedge form: the thicknesses around a cell, and a film's coefficients, row by row into four lent slices.
+// The coefficients that thicknesses, wedge and grid steps form: the thicknesses around a cell, and a film's coefficients, row by row into four lent slices.
 // Internal: the public call `form` and the report write them all, and crate `row_sums` takes the thicknesses around a cell.
 ghost use mathlib.Core.Path.{_≡_};
 ghost use mathlib.Core.List.{[]};
 ghost use Prim.Native.Nat.{_-_, _*_, _≤_};
-ghost use lib.IntN.{pos};
-ghost use Rattle.model.specs.FileCalls.{gaugeOf};
+ghost use Rattle.model.specs.Gauge.{factorsOf, byFactors, Stepped};
+ghost use Rattle.model.specs.FileCalls.{gaugeOf, bareOf};
 ghost use Rattle.forming.specs.Cell.{coefficientsAt, aroundOf, Ringed, Room, FormedTo, Forming};
+use model::Factors;
 use model::Head;
+use model::Steps;
 use stencil::Around;
 use stencil::Coefficients;
 
@@ -14,7 +16,7 @@ use stencil::Coefficients;
 pub fn around_at(head: Head, thicknesses: &[u8], row: usize, column: usize) -> Around
     requires { ⌜ Ringed (head .rows) (head .columns) (now thicknesses) ⌝ }
     requires { ⌜ (1 ≤ row) × (row ≤ head .rows) × (1 ≤ column) × (column ≤ head .columns) ⌝ }
-    ensures { λ r. ⌜ r ≡ aroundOf (gaugeOf head [] (now (thicknesses .entry)) (pos 0)) row column ⌝ }
+    ensures { λ r. ⌜ r ≡ aroundOf (bareOf head (now (thicknesses .entry))) row column ⌝ }
 {
     let width = (head.columns as usize) + 2;
     let place = row * width + column;
@@ -32,17 +34,18 @@ pub fn coefficients_at(
     head: Head,
     thicknesses: &[u8],
     wedge: i32,
+    factors: Factors,
     row: usize,
     column: usize,
 ) -> Coefficients
-    requires { ⌜ Ringed (head .rows) (head .columns) (now thicknesses) ⌝ }
+    requires { ⌜ Ringed (head .rows) (head .columns) (now thicknesses) × Stepped factors ⌝ }
     requires { ⌜ (1 ≤ row) × (row ≤ head .rows) × (1 ≤ column) × (column ≤ head .columns) ⌝ }
-    ensures { λ r. ⌜ r ≡ coefficientsAt (gaugeOf head [] (now (thicknesses .entry)) wedge) row column ⌝ }
+    ensures { λ r. ⌜ r ≡ coefficientsAt (gaugeOf head [] (now (thicknesses .entry)) wedge (byFactors factors)) row column ⌝ }
 {
     let around = around_at(head, thicknesses, row, column);
     let in_row = column < (head.columns as usize);
     let in_column = row < (head.rows as usize);
-    stencil::coefficients_of(around, wedge, in_row, in_column)
+    stencil::coefficients_of(around, factors, wedge, in_row, in_column)
 }
 
 // Writes the coefficients of a row's cells into their places in four slices, where those of the rows before stand already.
@@ -50,22 +53,23 @@ fn form_row(
     head: Head,
     thicknesses: &[u8],
     wedge: i32,
+    factors: Factors,
     row: usize,
     diagonals: &mut [u32],
     rights: &mut [u32],
     ups: &mut [u32],
     sources: &mut [i64],
 )
-    requires { ⌜ Ringed (head .rows) (head .columns) (now thicknesses) × (1 ≤ row) × (row ≤ head .rows) ⌝ }
+    requires { ⌜ Ringed (head .rows) (head .columns) (now thicknesses) × (1 ≤ row) × (row ≤ head .rows) × Stepped factors ⌝ }
     requires { ⌜ Room (head .rows * head .columns) (now diagonals) (now rights) (now ups) (now sources) ⌝ }
-    requires { ⌜ FormedTo ((row - 1) * head .columns) (gaugeOf head [] (now thicknesses) wedge) (now diagonals) (now rights) (now ups) (now sources) ⌝ }
-    ensures { λ r. ⌜ FormedTo (row * head .columns) (gaugeOf head [] (now (thicknesses .entry)) wedge) (now (diagonals .exit)) (now (rights .exit)) (now (ups .exit)) (now (sources .exit)) ⌝ }
+    requires { ⌜ FormedTo ((row - 1) * head .columns) (gaugeOf head [] (now thicknesses) wedge (byFactors factors)) (now diagonals) (now rights) (now ups) (now sources) ⌝ }
+    ensures { λ r. ⌜ FormedTo (row * head .columns) (gaugeOf head [] (now (thicknesses .entry)) wedge (byFactors factors)) (now (diagonals .exit)) (now (rights .exit)) (now (ups .exit)) (now (sources .exit)) ⌝ }
 {
     let columns = head.columns as usize;
     let first = (row - 1) * columns;
     let mut i = 0;
     while i < columns {
-        let cell = coefficients_at(head, thicknesses, wedge, row, i + 1);
+        let cell = coefficients_at(head, thicknesses, wedge, factors, row, i + 1);
         let source = cell.source;
         let at = first + i;
         diagonals[at] = cell.diagonal;
@@ -82,15 +86,17 @@ pub fn form(
     head: Head,
     thicknesses: &[u8],
     wedge: i32,
+    steps: Steps,
     diagonals: &mut [u32],
     rights: &mut [u32],
     ups: &mut [u32],
     sources: &mut [i64],
 )
-    requires { ⌜ Ringed (head .rows) (head .columns) (now thicknesses) ⌝ }
+    requires { ⌜ Ringed (head .rows) (head .columns) (now thicknesses) × Stepped (factorsOf steps) ⌝ }
     requires { ⌜ Room (head .rows * head .columns) (now diagonals) (now rights) (now ups) (now sources) ⌝ }
-    ensures { λ r. ⌜ Forming (gaugeOf head [] (now (thicknesses .entry)) wedge) (now (diagonals .exit)) (now (rights .exit)) (now (ups .exit)) (now (sources .exit)) ⌝ }
+    ensures { λ r. ⌜ Forming (gaugeOf head [] (now (thicknesses .entry)) wedge steps) (now (diagonals .exit)) (now (rights .exit)) (now (ups .exit)) (now (sources .exit)) ⌝ }
 {
+    let factors = stencil::factors_of(steps);
     let rows = head.rows as usize;
     let mut row = 0;
     while row < rows {
@@ -99,6 +105,7 @@ pub fn form(
             head,
             thicknesses,
             wedge,
+            factors,
             row,
             diagonals,
             rights,

@@ -14,6 +14,7 @@ use Rattle.model.specs.FileCalls.{film, Loads, used}
 use Rattle.model.specs.EitherFile.{formedBy}
 use Rattle.model.specs.Report.{refusedLine, filmReport, reportBy}
 use Rattle.model.specs.declared.Head.{Head}
+use Rattle.model.specs.declared.Steps.{Steps}
 use Rattle.model.proofs.File.{read-values}
 use Rattle.model.proofs.Inverse.{read-film, read-refusal}
 
@@ -23,10 +24,11 @@ pub record Read (bytes : List ℕ) (g : Gauge) : Type 0 where
   pub passes : gaugeCheck g true ≡ pass
   pub text : reportBy (formedBy (readFilm bytes)) ≡ filmReport (formed g)
 
-pub read-report : {bytes w t w′ t′ : List ℕ} {h : Head} {wedge : ℤ} → Bytes bytes → Loads bytes w t (answered (film h wedge)) w′ t′ → Read bytes (used h wedge w′ t′)
-read-report {bytes} {w} {t} {w′} {t′} {h} {wedge} B L =
-    let reads = read-film bytes w t w′ t′ h wedge B L in
-    let v = read-values bytes (used h wedge w′ t′) B reads in
+pub read-report : {bytes w t w′ t′ : List ℕ} {h : Head} {wedge : ℤ} {steps : Steps} → Bytes bytes → Loads bytes w t (answered (film h wedge steps)) w′ t′
+    → Read bytes (used h wedge steps w′ t′)
+read-report {bytes} {w} {t} {w′} {t′} {h} {wedge} {steps} B L =
+    let reads = read-film bytes w t w′ t′ h wedge steps B L in
+    let v = read-values bytes (used h wedge steps w′ t′) B reads in
     record { values = v .0; passes = v .1; text = ap (λ r. reportBy (formedBy r)) reads }
 
 -- .. or of its refusal

@@ -13,12 +13,20 @@ ghost use Rattle.model.specs.Report.{filmReport, reportBy};
 ghost use Rattle.text.specs.Writes.{Fits, Writes};
 use model::Head;
 use model::Loaded;
+use model::Steps;
 
 // The report of a film's numbers that have passed their tests.
-fn put_film(head: Head, weights: &[u16], thicknesses: &[u8], wedge: i32, out: &mut [u8]) -> usize
-    requires { ⌜ Values (gaugeOf head (now weights) (now thicknesses) wedge) × (gaugeCheck (gaugeOf head (now weights) (now thicknesses) wedge) true ≡ pass) ⌝ }
-    requires { ⌜ Fits (filmReport (formed (gaugeOf head (now weights) (now thicknesses) wedge))) (now out) 0 ⌝ }
-    ensures { λ r. ⌜ Writes (filmReport (formed (gaugeOf head (now (weights .entry)) (now (thicknesses .entry)) wedge))) (now (out .entry)) 0 (now (out .exit)) r ⌝ }
+fn put_film(
+    head: Head,
+    weights: &[u16],
+    thicknesses: &[u8],
+    wedge: i32,
+    steps: Steps,
+    out: &mut [u8],
+) -> usize
+    requires { ⌜ Values (gaugeOf head (now weights) (now thicknesses) wedge steps) × (gaugeCheck (gaugeOf head (now weights) (now thicknesses) wedge steps) true ≡ pass) ⌝ }
+    requires { ⌜ Fits (filmReport (formed (gaugeOf head (now weights) (now thicknesses) wedge steps))) (now out) 0 ⌝ }
+    ensures { λ r. ⌜ Writes (filmReport (formed (gaugeOf head (now (weights .entry)) (now (thicknesses .entry)) wedge steps))) (now (out .entry)) 0 (now (out .exit)) r ⌝ }
 {
     let n = weights.len();
     let mut diagonals = [0u32; 1024];
@@ -30,6 +38,7 @@ fn put_film(head: Head, weights: &[u16], thicknesses: &[u8], wedge: i32, out: &m
         head,
         thicknesses,
         wedge,
+        steps,
         &mut diagonals,
         &mut rights,
         &mut ups,
@@ -55,10 +64,10 @@ pub fn put_gauged(file: &[u8], out: &mut [u8]) -> usize
     let mut weights = [0u16; 1024];
     let mut thicknesses = [0u8; 1156];
     match file::read(file, &mut weights, &mut thicknesses) {
-        Loaded::Film(head, wedge) => {
+        Loaded::Film(head, wedge, steps) => {
             let n = shape::area(head.rows, head.columns);
             let t = shape::ring(head.rows, head.columns);
-            put_film(head, &weights[..n], &thicknesses[..t], wedge, out)
+            put_film(head, &weights[..n], &thicknesses[..t], wedge, steps, out)
         }
         Loaded::Refused(r) => render::put_refused(r, out, 0),
     }

@@ -17,9 +17,9 @@ use model::Refusal;
 use model::Tested;
 
 // The limits of model/specs/Limits.
-const DIAGONAL_LIMIT: u32 = 134217728;
+const DIAGONAL_LIMIT: u32 = 268435456;
 
-const LINK_LIMIT: u32 = 16777216;
+const LINK_LIMIT: u32 = 67108864;
 
 const SOURCE_LIMIT: u64 = 1125899906842624;
 

@@ -9,6 +9,7 @@ use lib.Dec.{eqb}
 use lib.IntN.{ℤ}
 use lib.ListN.{length, getD, take}
 use Rattle.model.specs.declared.Head.{Head}
+use Rattle.model.specs.declared.Steps.{Steps}
 use Rattle.model.specs.Refusals.{Check, pass, fail, _orElse_, failIf}
 use Rattle.model.specs.Gauge.{Gauge}
 use Rattle.model.specs.Film.{Film, filmOf, sizeOf}
@@ -117,14 +118,14 @@ coefficients-read-write bytes weights diagonals rights ups sources {weights′} 
     (rw saved at (s .answer-is), (rw saved at (s .lent-is)) ∙ whole)
 
 -- Read by the reader of gauged films, then converted: the converter does not refuse it, and its file has the same film.
-pub read-convert : (bytes weights thicknesses weights′ thicknesses′ out out′ : List ℕ) (h : Head) (wedge : ℤ) (answer : Answer (Unit {0})) → Bytes bytes
-    → Loads bytes weights thicknesses (answered (film h wedge)) weights′ thicknesses′
+pub read-convert : (bytes weights thicknesses weights′ thicknesses′ out out′ : List ℕ) (h : Head) (wedge : ℤ) (steps : Steps) (answer : Answer (Unit {0})) → Bytes bytes
+    → Loads bytes weights thicknesses (answered (film h wedge steps)) weights′ thicknesses′
     → length out ≡ coefficientEnd (cells (h .rows) (h .columns))
-    → Gives (convertCall (used h wedge weights′ thicknesses′) out) answer out′
+    → Gives (convertCall (used h wedge steps weights′ thicknesses′) out) answer out′
     → (answer ≡ answered tt) × (readEither out′ ≡ readEither bytes)
-read-convert bytes weights thicknesses weights′ thicknesses′ out out′ h wedge answer B L e s =
-    let g = used h wedge weights′ thicknesses′ in
-    let reads = read-film bytes weights thicknesses weights′ thicknesses′ h wedge B L in
+read-convert bytes weights thicknesses weights′ thicknesses′ out out′ h wedge steps answer B L e s =
+    let g = used h wedge steps weights′ thicknesses′ in
+    let reads = read-film bytes weights thicknesses weights′ thicknesses′ h wedge steps B L in
     let values = read-values bytes g B reads in
     let saved : convertCheck g out ≡ pass =
     rw (eq-eqb _ _ (values .0 .weights-len), eq-eqb _ _ (values .0 .thicknesses-len), eq-eqb _ _ e) (values .1) in

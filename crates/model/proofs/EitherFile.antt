@@ -13,8 +13,8 @@ use Rattle.model.specs.Coefficients.{formed}
 use Rattle.model.specs.Checks.{coefficientCheck, dominanceCheck, filmCheck}
 use Rattle.model.specs.Accepted.{Accepted}
 use Rattle.model.specs.Result.{Answer, answered, refused, answerBy}
-use Rattle.model.specs.Fields.{fieldsEnd, fieldTest, walk}
-use Rattle.model.specs.File.{shapeField, ceilingField, weightsField, thicknessesField, wedgeField, opening, gauged, cellsIn, ringIn, gaugeIn, gaugeDominance, fieldsCheck, fileCheck, readFilm, Bytes}
+use Rattle.model.specs.Fields.{fieldsEnd, fieldTest, walk, present, fieldsIn}
+use Rattle.model.specs.File.{shapeField, ceilingField, weightsField, thicknessesField, wedgeField, opening, gauged, gaugedOptional, cellsIn, ringIn, gaugedParts, gaugeIn, gaugeDominance, fieldsCheck, fileCheck, readFilm, Bytes}
 use Rattle.model.specs.CoefficientFile.{diagonalsField, rightsField, upsField, sourcesField, coefficientFields, filmIn, coefficientFileCheck, readCoefficients, coefficientFileOf}
 use Rattle.model.specs.EitherFile.{tagged06, formedBy, readEither}
 use Rattle.model.specs.Report.{reportBy, reportOf}
@@ -27,7 +27,7 @@ use Rattle.model.proofs.CoefficientFile.{coefficients-accepted, coeffic
 
 -- where a reader's test of the fields fails, that is its refusal
 module _ (bytes : List ℕ) {number place : ℕ} where
-  gauged-fails : fieldsCheck (gauged (cellsIn bytes) (ringIn bytes)) bytes ≡ fail number place → readFilm bytes ≡ refused number place
+  gauged-fails : fieldsCheck (fieldsIn (gauged (cellsIn bytes) (ringIn bytes)) gaugedOptional bytes) bytes ≡ fail number place → readFilm bytes ≡ refused number place
   unfolding fileCheck
   gauged-fails e = ap (λ c. answerBy (c orElse gaugeDominance (gaugeIn bytes)) (gaugeIn bytes)) e
 
@@ -40,7 +40,7 @@ pub refused-alike : (bytes : List ℕ) (number place : ℕ) → walk (opening (c
     → (readFilm bytes ≡ refused number place) × (readCoefficients bytes ≡ refused number place)
 refused-alike bytes number place e =
     let n = cellsIn bytes in (
-      gauged-fails bytes (opening-refused bytes (thicknessesField (ringIn bytes) ∷ wedgeField ∷ []) number place e),
+      gauged-fails bytes (opening-refused bytes (thicknessesField (ringIn bytes) ∷ wedgeField ∷ present gaugedOptional (gaugedParts bytes)) number place e),
       coefficients-fail bytes (opening-refused bytes (diagonalsField n ∷ rightsField n ∷ upsField n ∷ sourcesField n ∷ []) number place e),
     )
 
@@ -59,7 +59,7 @@ shape-refused bytes number place e =
 pub coefficients-not-gauged : (bytes : List ℕ) (f : Film) → readCoefficients bytes ≡ answered f
     → readFilm bytes ≡ refused 2 (fieldsEnd (opening (cellsIn bytes)) 0)
 coefficients-not-gauged bytes f e =
-    gauged-fails bytes (tag-refused bytes (thicknessesField (ringIn bytes)) (wedgeField ∷ []) 6 (coefficients-continue bytes f e) refl)
+    gauged-fails bytes (tag-refused bytes (thicknessesField (ringIn bytes)) (wedgeField ∷ present gaugedOptional (gaugedParts bytes)) 6 (coefficients-continue bytes f e) refl)
 
 pub gauged-not-coefficients : (bytes : List ℕ) (g : Gauge) → readFilm bytes ≡ answered g
     → readCoefficients bytes ≡ refused 2 (fieldsEnd (opening (cellsIn bytes)) 0)

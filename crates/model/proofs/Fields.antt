@@ -230,7 +230,7 @@ abbrev pub AllLocal : List Field → Type 0
 AllLocal [] = Unit {0}
 AllLocal (f ∷ fs) = Local f × AllLocal fs
 
-end-above : (fs : List Field) (at : ℕ) → at ≤ fieldsEnd fs at
+pub end-above : (fs : List Field) (at : ℕ) → at ≤ fieldsEnd fs at
 end-above [] at = le-refl at
 end-above (f ∷ fs) at = omega (arith, end-above fs (behind at (f .size)))
 

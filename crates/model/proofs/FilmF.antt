@@ -1,4 +1,4 @@
--- Film F's starred edges, each by computing; and by computing too, its report, the line with proposals on, and its coefficient film.
+-- Film F's starred edges, each by computing; and by computing too, its report, the line with proposals on, its coefficient film, and the film with grid steps.
 use mathlib.Core.Path.{refl}
 use Rattle.monotone.specs.Sweep.{sweep}
 use Rattle.model.specs.Lists.{firstOf}
@@ -9,12 +9,12 @@ use Rattle.model.specs.Proposal.{raisedBy, riseCount, withinCeiling, tig
 use Rattle.model.specs.Estimate.{eliminate, substitute, floorOf, wholePart, eliminated, solved, estimate}
 use Rattle.model.specs.Run.{orderOf, readied, run, proposeOwn, proposeLines}
 use Rattle.model.specs.Fields.{fieldAt}
-use Rattle.model.specs.File.{fileCheck, gaugeDominance}
+use Rattle.model.specs.File.{fileCheck, fileOf, gaugeDominance}
 use Rattle.model.specs.Report.{decimalDigits, peakOf, cellLines}
 use lib.Ieee.{add, sub, mul, div, lt, le, ofInt, eq, sum, neg, round, size, span, climb, units, odd}
 use lib.Count.{trailingZeros}
 use Rattle.model.specs.CoefficientFile.{coefficientFileCheck, coefficientFileOf}
-use Rattle.model.specs.FilmF.{Edges, bytesF, reportF, Computed, convertedF, CoefficientEdges}
+use Rattle.model.specs.FilmF.{Edges, bytesF, reportF, Computed, convertedF, CoefficientEdges, StepEdges}
 
 pub film-f : Edges
 unfolding sweep firstOf beside across neighbours filmFits badCoefficient zeroWeight notDominant sizeCheck coefficientCheck weightCheck dominanceCheck margin orderOf readied run
@@ -59,4 +59,29 @@ film-f-coefficients =
       source-least = refl;
       link-out = refl;
       not-dominant = refl;
+    }
+
+pub film-f-steps : StepEdges
+unfolding bytesF convertedF sweep firstOf beside across neighbours badCoefficient notDominant coefficientCheck dominanceCheck orderOf readied run fileCheck fileOf coefficientFileCheck coefficientFileOf fieldAt gaugeDominance decimalDigits peakOf cellLines
+film-f-steps =
+    record {
+      diagonals = refl;
+      links = refl;
+      sources = refl;
+      reads = refl;
+      writes = refl;
+      ones-read = refl;
+      ones-written = refl;
+      ones-formed = refl;
+      tag-alone = refl;
+      other-tag = refl;
+      without-last = refl;
+      of-three = refl;
+      along-0 = refl;
+      across-5 = refl;
+      before-stray = refl;
+      twice = refl;
+      before-05 = refl;
+      in-coefficients = refl;
+      converted = refl;
     }

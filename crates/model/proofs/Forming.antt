@@ -10,20 +10,20 @@ use lib.Arith.{digits-lt}
 use lib.Dec.{leb, ltb, eqb}
 use lib.IntN.{ℤ, pos, negsuc, negℤ, _-ℤ_, _*ℤ_, natAbs}
 use lib.ListN.{length, getD}
-use Rattle.model.specs.Limits.{sideLimit, ceilingLimit, thicknessLimit, wedgeLimit, diagonalLimit, linkLimit, sourceLimit}
+use Rattle.model.specs.Limits.{sideLimit, ceilingLimit, thicknessLimit, wedgeLimit, stepLimit, diagonalLimit, linkLimit, sourceLimit}
 use Rattle.model.specs.Lists.{tabulate, firstOf}
 use Rattle.monotone.specs.Rule.{Bounded}
 use Rattle.model.specs.Refusals.{Check, pass, _orElse_, failIf, failFirst}
-use Rattle.model.specs.Gauge.{Gauge, thicknessAt}
+use Rattle.model.specs.Gauge.{Gauge, thicknessAt, factorsOf}
 use Rattle.model.specs.Film.{Film, sizeOf, weightAt, rule}
-use Rattle.model.specs.Coefficients.{linkOf, formedDiagonal, formedRight, formedUp, formedSource, byCell, formed}
+use Rattle.model.specs.Coefficients.{linkOf, rowLink, columnLink, formedDiagonal, formedRight, formedUp, formedSource, byCell, formed}
 use Rattle.model.specs.Checks.{outside, filmFits, badCoefficient, zeroWeight, notDominant, sizeCheck, coefficientCheck, weightCheck, dominanceCheck, startCheck, numericCheck, filmCheck, fieldCheck}
 use Rattle.model.specs.Accepted.{Sized, LimitedCell, Limited, Accepted}
 use Rattle.model.specs.File.{cells, ringed, ceilingOffset, weightsOffset, thicknessesOffset, gaugeDominance, gaugeCheck, Values}
 use Rattle.model.proofs.Integers.{sub-pos, sub-lt, sub-le, by-order}
 use Rattle.model.proofs.Lists.{tabulate-length, tabulate-at, first-hit}
 use Rattle.model.proofs.Checks.{within, failIf-pass, failFirst-pass}
-use Rattle.model.proofs.File.{NumbersPassed, gauge-passes, gauge-shape, wedge-low}
+use Rattle.model.proofs.File.{NumbersPassed, gauge-passes, gauge-shape, wedge-low, stepped}
 
 -- ---- an accepted film passes its tests: the converse of what passed tests say
 
@@ -97,16 +97,19 @@ field-accepted f p fits order place A B =
 
 -- ---- limits of the formed coefficients, over plain numbers
 
--- a link of thicknesses within their limits, the cube of their sum
+-- a link of thicknesses and a factor within their limits
 record Link (k : ℕ) : Type 0 where
   some : 1 ≤ k
   low : k ≤ linkLimit
 
-link-limits : (a b : ℕ) → (1 ≤ a) × (a ≤ thicknessLimit) → (1 ≤ b) × (b ≤ thicknessLimit) → Link (linkOf a b)
-link-limits a b h k =
+link-limits : (f a b : ℕ) → (1 ≤ f) × (f ≤ stepLimit) → (1 ≤ a) × (a ≤ thicknessLimit) → (1 ≤ b) × (b ≤ thicknessLimit) → Link (linkOf f a b)
+link-limits f a b l h k =
     let some : 1 ≤ a + b = omega arith in
     let low : a + b ≤ thicknessLimit + thicknessLimit = omega arith in
-    record { some = mul-le-mul (mul-le-mul some some) some; low = le-trans (mul-le-mul (mul-le-mul low low) low) (omega arith) }
+    record {
+      some = mul-le-mul (l .0) (mul-le-mul (mul-le-mul some some) some);
+      low = le-trans (mul-le-mul (l .1) (mul-le-mul (mul-le-mul low low) low)) (omega arith);
+    }
 
 -- a diagonal, the sum of four; and a link that is counted or not
 diagonal-limits : {l r d u : ℕ} → Link l → Link r → Link d → Link u → (1 ≤ l + r + d + u) × (l + r + d + u ≤ diagonalLimit)
@@ -149,19 +152,25 @@ module _ (g : Gauge) (p : NumbersPassed g) where
 
   -- the cell in row r and column c, counted from 1: its link to (s, d), of the grid or the ring, and what is formed from its links
   module _ (r c : ℕ) (w : (r ≤ g .rows) × (c ≤ g .columns)) where
-    link-to : (s d : ℕ) → (s < g .rows + 2) × (d < g .columns + 2) → Link (linkOf (thicknessAt g r c) (thicknessAt g s d))
-    link-to s d h = link-limits _ _ (thickness-limits r c (omega arith)) (thickness-limits s d h)
+    link-to : (f s d : ℕ) → (1 ≤ f) × (f ≤ stepLimit) → (s < g .rows + 2) × (d < g .columns + 2) → Link (linkOf f (thicknessAt g r c) (thicknessAt g s d))
+    link-to f s d k h = link-limits f _ _ k (thickness-limits r c (omega arith)) (thickness-limits s d h)
+
+    row-link : (d : ℕ) → d < g .columns + 2 → Link (rowLink g r c d)
+    row-link d h = let s = stepped (g .steps) _ (p .steps) in link-to (factorsOf (g .steps) .along) r d (s .along-some, s .along-low) (omega arith)
+
+    column-link : (s : ℕ) → s < g .rows + 2 → Link (columnLink g r c s)
+    column-link s h = let t = stepped (g .steps) _ (p .steps) in link-to (factorsOf (g .steps) .across) s c (t .across-some, t .across-low) (omega arith)
 
     diagonal-formed : (1 ≤ formedDiagonal g r c) × (formedDiagonal g r c ≤ diagonalLimit)
     diagonal-formed =
-        diagonal-limits (link-to r (c - 1) (omega arith)) (link-to r (c + 1) (omega arith)) (link-to (r - 1) c (omega arith))
-        (link-to (r + 1) c (omega arith))
+        diagonal-limits (row-link (c - 1) (omega arith)) (row-link (c + 1) (omega arith)) (column-link (r - 1) (omega arith))
+        (column-link (r + 1) (omega arith))
 
     right-formed : formedRight g r c ≤ linkLimit
-    right-formed = link-if (ltb c (g .columns)) (link-to r (c + 1) (omega arith))
+    right-formed = link-if (ltb c (g .columns)) (row-link (c + 1) (omega arith))
 
     up-formed : formedUp g r c ≤ linkLimit
-    up-formed = link-if (ltb r (g .rows)) (link-to (r + 1) c (omega arith))
+    up-formed = link-if (ltb r (g .rows)) (column-link (r + 1) (omega arith))
 
     source-formed : natAbs (formedSource g r c) ≤ sourceLimit
     source-formed =

@@ -9,11 +9,12 @@ use lib.Dec.{eqb}
 use lib.IntN.{ℤ}
 use lib.ListN.{length, take, drop}
 use Rattle.model.specs.declared.Head.{Head}
+use Rattle.model.specs.declared.Steps.{Steps}
 use Rattle.model.specs.Refusals.{Check, pass, fail, _orElse_, failIf}
 use Rattle.model.specs.Gauge.{Gauge}
 use Rattle.model.specs.Checks.{shapeCheck}
 use Rattle.model.specs.Result.{Answer, answered, refused, answerBy, Gives}
-use Rattle.model.specs.File.{cells, ringed, rowsOffset, columnsOffset, endOffset, gaugeIn, fileCheck, readFilm, fileOf, gaugeCheck, Bytes, Values}
+use Rattle.model.specs.File.{cells, ringed, rowsOffset, columnsOffset, gaugeIn, fileCheck, readFilm, gaugedEnd, fileOf, gaugeCheck, Bytes, Values}
 use Rattle.model.specs.FileCalls.{gaugeOf, headOf, saveCheck, saveCall, LoadAnswer, film, loadAnswer, loadCheck, laidOver, Loads, ReadsBack, used}
 use Rattle.model.proofs.Checks.{orElse-parts, failIf-pass}
 use Rattle.model.proofs.File.{file-length, written-reads, read-writes, read-values}
@@ -60,10 +61,10 @@ module _ {A : Type 0} where
   laid l before {after} {n} e h = ap (take n) e ∙ ap (λ (k : ℕ). take k (laidOver l before)) (sym h) ∙ take-front l (drop (length l) before)
 
 -- What the reader answers is what the file's bytes say: the film whose numbers it laid over its buffers, ..
-pub read-film : (bytes weights thicknesses weights′ thicknesses′ : List ℕ) (h : Head) (wedge : ℤ) → Bytes bytes
-    → Loads bytes weights thicknesses (answered (film h wedge)) weights′ thicknesses′
-    → readFilm bytes ≡ answered (used h wedge weights′ thicknesses′)
-read-film bytes weights thicknesses weights′ thicknesses′ h wedge B L =
+pub read-film : (bytes weights thicknesses weights′ thicknesses′ : List ℕ) (h : Head) (wedge : ℤ) (steps : Steps) → Bytes bytes
+    → Loads bytes weights thicknesses (answered (film h wedge steps)) weights′ thicknesses′
+    → readFilm bytes ≡ answered (used h wedge steps weights′ thicknesses′)
+read-film bytes weights thicknesses weights′ thicknesses′ h wedge steps B L =
     let g = gaugeIn bytes in
     let told = answer-passed (loadCheck bytes weights thicknesses) (loadAnswer g) (L .answer-is) in
     let loaded : loadCheck bytes weights thicknesses ≡ pass = told .0 in
@@ -71,17 +72,18 @@ read-film bytes weights thicknesses weights′ thicknesses′ h wedge B L =
     orElse-parts (failIf (not (eqb (length weights) 1024 && eqb (length thicknesses) 1156)) 10 0) _ loaded .1 in
     let reads : readFilm bytes ≡ answered g = ap (λ c. answerBy c g) accepts in
     let values = read-values bytes g B reads .0 in
-    let numbers : film h wedge ≡ film (headOf g) (g .wedge) = told .1 in
+    let numbers : film h wedge steps ≡ film (headOf g) (g .wedge) (g .steps) = told .1 in
     let head : h ≡ headOf g = cc in
     let slope : wedge ≡ g .wedge = cc in
+    let factors : steps ≡ g .steps = cc in
     let ws : weights′ ≡ laidOver (g .weights) weights = rw loaded at (L .weights-are) in
     let ts : thicknesses′ ≡ laidOver (g .thicknesses) thicknesses = rw loaded at (L .thicknesses-are) in
     let weights-used : take (cells (g .rows) (g .columns)) weights′ ≡ g .weights = laid (g .weights) weights ws (values .weights-len) in
     let thicknesses-used : take (ringed (g .rows) (g .columns)) thicknesses′ ≡ g .thicknesses =
     laid (g .thicknesses) thicknesses ts (values .thicknesses-len) in
-    let same : used h wedge weights′ thicknesses′ ≡ g =
-    ap (λ x. used x wedge weights′ thicknesses′) head
-    ∙ (λ k. gaugeOf (headOf g) (weights-used k) (thicknesses-used k) (slope k)) in
+    let same : used h wedge steps weights′ thicknesses′ ≡ g =
+    ap (λ x. used x wedge steps weights′ thicknesses′) head
+    ∙ (λ k. gaugeOf (headOf g) (weights-used k) (thicknesses-used k) (slope k) (factors k)) in
     reads ∙ ap answered (sym same)
 
 -- .. or the file's refusal.
@@ -97,17 +99,17 @@ read-refusal bytes weights thicknesses weights′ thicknesses′ number place w 
     refused-same (fileCheck bytes) (loadAnswer (gaugeIn bytes)) (gaugeIn bytes) (rw same at (L .answer-is))
 
 -- Read, then written: the writer writes the file's own bytes.
-pub read-write : (bytes weights thicknesses weights′ thicknesses′ out out′ : List ℕ) (h : Head) (wedge : ℤ) (answer : Answer (Unit {0})) → Bytes bytes
-    → Loads bytes weights thicknesses (answered (film h wedge)) weights′ thicknesses′
+pub read-write : (bytes weights thicknesses weights′ thicknesses′ out out′ : List ℕ) (h : Head) (wedge : ℤ) (steps : Steps) (answer : Answer (Unit {0})) → Bytes bytes
+    → Loads bytes weights thicknesses (answered (film h wedge steps)) weights′ thicknesses′
     → length out ≡ length bytes
-    → Gives (saveCall (used h wedge weights′ thicknesses′) out) answer out′
+    → Gives (saveCall (used h wedge steps weights′ thicknesses′) out) answer out′
     → (answer ≡ answered tt) × (out′ ≡ bytes)
-read-write bytes weights thicknesses weights′ thicknesses′ out out′ h wedge answer B L e s =
-    let g = used h wedge weights′ thicknesses′ in
-    let reads = read-film bytes weights thicknesses weights′ thicknesses′ h wedge B L in
+read-write bytes weights thicknesses weights′ thicknesses′ out out′ h wedge steps answer B L e s =
+    let g = used h wedge steps weights′ thicknesses′ in
+    let reads = read-film bytes weights thicknesses weights′ thicknesses′ h wedge steps B L in
     let values = read-values bytes g B reads in
     let whole : fileOf g ≡ bytes = read-writes bytes g B reads in
-    let room : length out ≡ endOffset (cells (g .rows) (g .columns)) (ringed (g .rows) (g .columns)) =
+    let room : length out ≡ gaugedEnd g =
     e ∙ ap length (sym whole) ∙ file-length g (values .0) in
     let saved : saveCheck g out ≡ pass =
     rw (eq-eqb _ _ (values .0 .weights-len), eq-eqb _ _ (values .0 .thicknesses-len), eq-eqb _ _ room) (values .1) in

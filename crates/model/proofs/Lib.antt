@@ -17,6 +17,7 @@ pub mod History
 pub mod Demand
 pub mod Codes
 pub mod Fields
+pub mod Optional
 pub mod Opening
 pub mod File
 pub mod Inverse

@@ -27,6 +27,10 @@ module _ {A : Type 0} where
   tabulate-is n g d l e h =
       ext-getD d l (tabulate n g) (e ∙ sym (tabulate-length n g)) (λ i b. h i (omega arith) ∙ sym (tabulate-at n g d i (omega arith)))
 
+  -- lists by index are equal where their elements are
+  pub tabulate-same : (d : A) (n : ℕ) (f g : ℕ → A) → ((i : ℕ) → i < n → f i ≡ g i) → tabulate n f ≡ tabulate n g
+  tabulate-same d n f g h = tabulate-is n g d (tabulate n f) (tabulate-length n f) (λ i b. tabulate-at n f d i b ∙ h i b)
+
 -- a list by index, in two parts
 pub tabulate-add : (a b : ℕ) (f : ℕ → ℕ) → tabulate (a + b) f ≡ tabulate a f ++ tabulate b (λ j. f (a + j))
 tabulate-add zero b f = simp zero-add

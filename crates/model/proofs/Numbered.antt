@@ -1,13 +1,13 @@
 -- A refusal's number is never 0: so a caller who is told numbers alone, and gets 0, knows that the call answered.
 use mathlib.Core.Path.{_≡_}
 use mathlib.Core.Bool.{Bool, true, false, not, _&&_}
-use mathlib.Core.List.{List, [], _∷_}
+use mathlib.Core.List.{List, [], _∷_, _++_}
 use Prim.Native.Nat.{ℕ, _+_, _*_, _<_}
 use native.Mathlib.Omega.{arith}
 use lib.Dec.{ltb, eqb}
 use lib.IntN.{ℤ, natAbs}
 use lib.ListN.{length, getD}
-use Rattle.model.specs.Limits.{sideLimit, ceilingLimit, thicknessLimit, wedgeLimit}
+use Rattle.model.specs.Limits.{sideLimit, ceilingLimit, thicknessLimit, wedgeLimit, stepLimit}
 use Rattle.model.specs.Lists.{firstOf}
 use Rattle.model.specs.Refusals.{Check, pass, fail, _orElse_, failIf, failFirst, Numbered}
 use Rattle.model.specs.Gauge.{Gauge}
@@ -15,8 +15,8 @@ use Rattle.model.specs.Film.{Film, sizeOf}
 use Rattle.model.specs.Coefficients.{formed}
 use Rattle.model.specs.Checks.{outside, filmFits, badCoefficient, zeroWeight, notDominant, sizeCheck, coefficientCheck, weightCheck, dominanceCheck, orderCheck, lineCheck, fieldCheck}
 use Rattle.model.specs.Bytes.{byteAt, wordAt, longAt, signedOf}
-use Rattle.model.specs.Fields.{Field, body, behind, fieldsEnd, fieldAt, walk}
-use Rattle.model.specs.File.{shapeField, ceilingField, weightsField, thicknessesField, wedgeField, gauged, cellsIn, ringIn, gaugeIn, gaugeDominance, fieldsCheck, fileCheck}
+use Rattle.model.specs.Fields.{Field, body, behind, fieldsEnd, fieldAt, walk, Optional, absent, given, present, fieldsIn}
+use Rattle.model.specs.File.{shapeField, ceilingField, weightsField, thicknessesField, wedgeField, stepsField, gauged, gaugedOptional, cellsIn, ringIn, gaugedParts, gaugeIn, gaugeDominance, fieldsCheck, fileCheck}
 use Rattle.model.specs.FileCalls.{loadCheck}
 use Rattle.model.specs.CoefficientFile.{coefficientFields, filmIn, coefficientFileCheck}
 use Rattle.model.specs.CoefficientCalls.{buffersFit, coefficientLoadCheck}
@@ -105,6 +105,21 @@ coefficients-numbered n = (shape-numbered, (ceiling-numbered, (weights-numbered 
     untested : (bytes : List ℕ) (at : ℕ) → Numbered pass
     untested bytes at = by-pass
 
+optional-numbered : AllNumbered gaugedOptional
+optional-numbered = (factors, tt)
+  where
+    factors : (bytes : List ℕ) (at : ℕ) → Numbered (stepsField .check bytes at)
+    factors bytes at =
+        by-or _ _ (by-if (outside (byteAt bytes at) 1 stepLimit) 15 at (omega arith)) (by-if (outside (byteAt bytes (at + 1)) 1 stepLimit) 15 (at + 1) (omega arith))
+
+-- those that are there, behind those that must be
+all-present : (fs gs : List Field) (ps : List (Optional (List ℕ))) → AllNumbered fs → AllNumbered gs → AllNumbered (fs ++ present gs ps)
+all-present (f ∷ fs) gs ps a b = (a .0, all-present fs gs ps (a .1) b)
+all-present [] [] ps a b = tt
+all-present [] (g ∷ gs) [] a b = tt
+all-present [] (g ∷ gs) (absent ∷ ps) a b = all-present [] gs ps tt (b .1)
+all-present [] (g ∷ gs) (given bytes ∷ ps) a b = (b .0, all-present [] gs ps tt (b .1))
+
 -- the fields of a file of either kind, and what follows them
 fields-numbered : (fields : List Field) (bytes : List ℕ) → AllNumbered fields → Numbered (fieldsCheck fields bytes)
 fields-numbered fields bytes all =
@@ -118,7 +133,10 @@ pub load-numbered : (bytes weights thicknesses : List ℕ) → Numbered (loadChe
 unfolding fileCheck
 load-numbered bytes weights thicknesses =
     by-or _ _ (by-if (not (eqb (length weights) 1024 && eqb (length thicknesses) 1156)) 10 0 (omega arith))
-    (by-or _ _ (fields-numbered (gauged (cellsIn bytes) (ringIn bytes)) bytes (gauged-numbered (cellsIn bytes) (ringIn bytes))) (dominance-numbered (gaugeIn bytes)))
+    (by-or _ _
+    (fields-numbered (fieldsIn (gauged (cellsIn bytes) (ringIn bytes)) gaugedOptional bytes) bytes
+    (all-present (gauged (cellsIn bytes) (ringIn bytes)) gaugedOptional (gaugedParts bytes) (gauged-numbered (cellsIn bytes) (ringIn bytes)) optional-numbered))
+    (dominance-numbered (gaugeIn bytes)))
 
 pub coefficient-load-numbered : (bytes weights diagonals rights ups : List ℕ) (sources : List ℤ) → Numbered (coefficientLoadCheck bytes weights diagonals rights ups sources)
 unfolding coefficientFileCheck coefficientCheck dominanceCheck

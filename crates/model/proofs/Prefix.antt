@@ -4,7 +4,7 @@
 -- bytes were looked at; where it is not, the fields of either kind end within those bytes, and the numbers are the same.
 use mathlib.Core.Path.{_≡_, refl, sym, ap, ap₂, _∙_}
 use mathlib.Core.Bool.{cond}
-use mathlib.Core.List.{List}
+use mathlib.Core.List.{List, _++_}
 use Prim.Native.Nat.{ℕ, _+_, _*_, _≤_, _<_}
 use native.Mathlib.Nat.{mul-le-mul, mul-le-mul-left, mul-suc}
 use native.Mathlib.Decide.{decLt}
@@ -12,7 +12,7 @@ use native.Mathlib.Omega.{arith}
 use borrow.Author.Tests.{lt-ltb}
 use lib.Dec.{eqb}
 use lib.IntN.{pos}
-use lib.ListN.{length, take}
+use lib.ListN.{length, getD, take}
 use lib.Seq.{length-take-le, take-all, getD-take}
 use Rattle.model.specs.Limits.{thicknessLimit}
 use Rattle.model.specs.Lists.{tabulate}
@@ -21,16 +21,17 @@ use Rattle.model.specs.Gauge.{Gauge}
 use Rattle.model.specs.Film.{Film, sizeOf}
 use Rattle.model.specs.Checks.{outside, shapeCheck, ceilingCheck, coefficientCheck, dominanceCheck}
 use Rattle.model.specs.Bytes.{byteAt, wordAt, signedOf}
-use Rattle.model.specs.Fields.{Field, fieldsEnd, fieldAt, fieldTest, unexpectedAt}
-use Rattle.model.specs.File.{cells, ringed, wedgeCheck, shapeField, ceilingField, weightsField, thicknessesField, wedgeField, opening, gauged, rowsOffset, columnsOffset, ceilingOffset, weightsOffset, thicknessesOffset, wedgeOffset, cellsIn, ringIn, gaugeIn, gaugeDominance, fieldsCheck, fileCheck, readFilm}
+use Rattle.model.specs.Fields.{Field, fieldsEnd, fieldAt, fieldTest, unexpectedAt, absent, present}
+use Rattle.model.specs.File.{cells, ringed, wedgeCheck, factorsFrom, shapeField, ceilingField, weightsField, thicknessesField, wedgeField, stepsField, opening, gauged, gaugedOptional, rowsOffset, columnsOffset, ceilingOffset, weightsOffset, thicknessesOffset, wedgeOffset, endOffset, cellsIn, ringIn, stepsOf, gaugedParts, gaugeIn, gaugeDominance, fieldsCheck, fileCheck, readFilm}
 use Rattle.model.specs.CoefficientFile.{numbersField, coefficientFields, diagonalsOffset, rightsOffset, upsOffset, sourcesOffset, filmIn, coefficientFileCheck, readCoefficients}
 use Rattle.model.specs.EitherFile.{tagged06, formedBy, readEither}
 use Rattle.model.specs.Result.{answerBy}
 use Rattle.model.specs.Report.{reportBy, reportOf, enough}
-use Rattle.model.proofs.Lists.{tabulate-length, tabulate-at, tabulate-is}
+use Rattle.model.proofs.Lists.{tabulate-same}
 use Rattle.model.proofs.Checks.{orElse-parts, failFirst-same}
 use Rattle.model.proofs.Codes.{Code, word-code, long-code, signed-long-code, signed-quad-code}
 use Rattle.model.proofs.Fields.{Agree, Local, AllLocal, field-same, walk-same}
+use Rattle.model.proofs.Optional.{parts-same, present-end, present-local, append-local}
 use Rattle.model.proofs.Opening.{Shaped, shape-passes}
 use Rattle.model.proofs.EitherFile.{shape-refused}
 
@@ -67,6 +68,13 @@ wedge-local =
 numbers-local : (tag width n : ℕ) → Local (numbersField tag width n)
 numbers-local tag width n = record { alike = λ l m at same. refl }
 
+steps-local : Local stepsField
+steps-local =
+    record {
+      alike = λ l m at same.
+          ap₂ (λ along across. factorsFrom (record { along = along; across = across }) at) (same at (omega arith) (omega arith)) (same (at + 1) (omega arith) (omega arith));
+    }
+
 gauged-local : (n t : ℕ) → AllLocal (gauged n t)
 gauged-local n t = (shape-local, (ceiling-local, (weights-local n, (thicknesses-local t, (wedge-local, tt)))))
 
@@ -80,14 +88,10 @@ coefficients-local n = (
 few-cells : {rows columns : ℕ} → Shaped rows columns → cells rows columns ≤ 1024
 few-cells s = let count = mul-le-mul (s .rows-low) (s .columns-low) in omega arith
 
-gauged-near : {rows columns : ℕ} → Shaped rows columns → fieldsEnd (gauged (cells rows columns) (ringed rows columns)) 0 < enough
+gauged-near : {rows columns : ℕ} → Shaped rows columns → fieldsEnd (gauged (cells rows columns) (ringed rows columns) ++ gaugedOptional) 0 < enough
 gauged-near s = let few = few-cells s in omega arith
 
 -- ---- two files that agree so far
-
--- lists by index are equal where their numbers are
-tabulate-same : {A : Type 0} (d : A) (n : ℕ) (f g : ℕ → A) → ((i : ℕ) → i < n → f i ≡ g i) → tabulate n f ≡ tabulate n g
-tabulate-same d n f g h = tabulate-is n g d (tabulate n f) (tabulate-length n f) (λ i b. tabulate-at n f d i b ∙ h i b)
 
 -- a file cut there agrees with the whole
 cut-agrees : (l : List ℕ) → enough ≤ length l → Agree enough (take enough l) l
@@ -137,6 +141,9 @@ module _ (l m : List ℕ) (A : Agree enough l m) where
     weights-same : tabulate (cellsIn l) (λ i. wordAt l (weightsOffset + 2 * i)) ≡ tabulate n (λ i. wordAt m (weightsOffset + 2 * i))
     weights-same = rw (rows-same, columns-same) (list-same word-code 0 weightsOffset n (omega (arith, low)))
 
+    optional-same : gaugedParts l ≡ gaugedParts m
+    optional-same = rw (rows-same, columns-same) (parts-same A gaugedOptional (endOffset n t) (gauged-near s))
+
     gauge-same : gaugeIn l ≡ gaugeIn m
     gauge-same =
         let end = gauged-near s in
@@ -144,6 +151,7 @@ module _ (l m : List ℕ) (A : Agree enough l m) where
         rw (rows-same, columns-same) (tabulate-same 0 t _ _ (λ j b. A .same (thicknessesOffset n + j) (omega (arith, end)))) in
         let wedge : gaugeIn l .wedge ≡ gaugeIn m .wedge =
         rw (rows-same, columns-same) (number-same signed-long-code (wedgeOffset n t) (omega (arith, end))) in
+        let steps : gaugeIn l .steps ≡ gaugeIn m .steps = ap (λ ps. stepsOf (getD ps 0 absent)) optional-same in
         λ k. record {
           rows = rows-same k;
           columns = columns-same k;
@@ -151,6 +159,7 @@ module _ (l m : List ℕ) (A : Agree enough l m) where
           weights = weights-same k;
           thicknesses = thicknesses k;
           wedge = wedge k;
+          steps = steps k;
         }
 
     film-same : filmIn l ≡ filmIn m
@@ -171,12 +180,21 @@ module _ (l m : List ℕ) (A : Agree enough l m) where
         }
 
     -- so both readers read the two files alike, and the same one is chosen
+    local : AllLocal (gauged n t ++ present gaugedOptional (gaugedParts m))
+    local =
+        append-local (gauged n t) (present gaugedOptional (gaugedParts m)) (gauged-local n t)
+        (present-local gaugedOptional (gaugedParts m) (steps-local, tt))
+
+    near : fieldsEnd (gauged n t ++ present gaugedOptional (gaugedParts m)) 0 < enough
+    near = omega (arith, present-end gaugedOptional (gaugedParts m) (endOffset n t), gauged-near s)
+
     gauged-same : readFilm l ≡ readFilm m
     unfolding fileCheck
     gauged-same =
         let checks : fileCheck l ≡ fileCheck m =
-        ap (λ (g : Gauge). fieldsCheck (gauged (cells (g .rows) (g .columns)) (ringed (g .rows) (g .columns))) l orElse gaugeDominance g) gauge-same
-        ∙ ap (λ c. c orElse gaugeDominance (gaugeIn m)) (fields-same (gauged n t) (gauged-local n t) (gauged-near s)) in
+        (λ k. fieldsCheck (gauged (cells (rows-same k) (columns-same k)) (ringed (rows-same k) (columns-same k)) ++ present gaugedOptional (optional-same k)) l
+        orElse gaugeDominance (gauge-same k))
+        ∙ ap (λ c. c orElse gaugeDominance (gaugeIn m)) (fields-same (gauged n t ++ present gaugedOptional (gaugedParts m)) local near) in
         ap₂ answerBy checks gauge-same
 
     coefficients-same : readCoefficients l ≡ readCoefficients m

@@ -38,10 +38,10 @@ module _ (bytes : List ℕ) (B : Bytes bytes) where
   module _ {f : Film} (S : GaugedSession bytes f) where
     -- the film's numbers, as the reader laid them over its buffers
     abbrev numbers : Gauge
-    numbers = used (S .head) (S .wedge) (S .weights′) (S .thicknesses′)
+    numbers = used (S .head) (S .wedge) (S .steps) (S .weights′) (S .thicknesses′)
 
     numbers-read : readFilm bytes ≡ answered numbers
-    numbers-read = read-film bytes (S .weights) (S .thicknesses) (S .weights′) (S .thicknesses′) (S .head) (S .wedge) B (S .loads)
+    numbers-read = read-film bytes (S .weights) (S .thicknesses) (S .weights′) (S .thicknesses′) (S .head) (S .wedge) (S .steps) B (S .loads)
 
     passes : formCheck numbers (S .diagonals) (S .rights) (S .ups) (S .sources) ≡ pass
     passes =
@@ -99,8 +99,8 @@ module _ (bytes : List ℕ) (B : Bytes bytes) where
       let thicknesses′ : List ℕ = laidOver (gaugeIn bytes .thicknesses) thicknesses in
       let loads : Loads bytes weights thicknesses (answered (loadAnswer g)) weights′ thicknesses′ =
       record { answer-is = rw opened (ap (λ (h : Gauge). answered (loadAnswer h)) (read .1)); weights-are = rw opened; thicknesses-are = rw opened } in
-      let laid : Gauge = used (headOf g) (g .wedge) weights′ thicknesses′ in
-      let reads : readFilm bytes ≡ answered laid = read-film bytes weights thicknesses weights′ thicknesses′ (headOf g) (g .wedge) B loads in
+      let laid : Gauge = used (headOf g) (g .wedge) (g .steps) weights′ thicknesses′ in
+      let reads : readFilm bytes ≡ answered laid = read-film bytes weights thicknesses weights′ thicknesses′ (headOf g) (g .wedge) (g .steps) B loads in
       let same : answered g ≡ answered laid = sym e ∙ reads in
       let one : g ≡ laid = cc in
       let zeros : List ℕ = replicate n 0 in
@@ -111,6 +111,7 @@ module _ (bytes : List ℕ) (B : Bytes bytes) where
       record {
         head = headOf g;
         wedge = g .wedge;
+        steps = g .steps;
         weights = weights;
         thicknesses = thicknesses;
         weights′ = weights′;

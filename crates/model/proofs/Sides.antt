@@ -13,6 +13,7 @@ use lib.IntN.{pos}
 use lib.ListN.{getD}
 use Rattle.monotone.specs.Links.{pull}
 use Rattle.model.specs.Limits.{sideLimit}
+use Rattle.model.specs.declared.Steps.the-variants as steps
 use Rattle.model.specs.Gauge.{Gauge}
 use Rattle.model.specs.Integers.{atMostZero}
 use Rattle.model.specs.Film.{Film, linkIf, beside, across, neighbours, pullOf, diagonalAt, rightAt, upAt, slackOf}
@@ -105,7 +106,7 @@ pull-append (l ∷ ls) ms p = omega (arith, pull-append ls ms p)
 -- a film's grid, as `pressureAt` takes it: of a film's numbers only rows and columns count
 abbrev pub gridOf : Film → Gauge
 gridOf f =
-    record { rows = f .rows; columns = f .columns; ceiling = f .ceiling; weights = f .weights; thicknesses = []; wedge = pos 0 }
+    record { rows = f .rows; columns = f .columns; ceiling = f .ceiling; weights = f .weights; thicknesses = []; wedge = pos 0; steps = steps.Absent }
 
 -- (r, c) is a cell of the film
 abbrev pub Inside : Film → ℕ → ℕ → Type 0

@@ -11,7 +11,7 @@ use Rattle.model.specs.Film.{Film, sizeOf}
 use Rattle.model.specs.Checks.{shapeCheck, ceilingCheck, filmFits, coefficientCheck, dominanceCheck}
 use Rattle.model.specs.Result.{Answer, answerBy}
 use Rattle.model.specs.Bytes.{byteAt, wordAt, longAt, quadAt, long, quad, signedQuad, unsignedQuad, listed}
-use Rattle.model.specs.Fields.{Field, body, fieldsEnd, bytesOf}
+use Rattle.model.specs.Fields.{Field, body, fieldsEnd, bytesOf, fieldsIn}
 use Rattle.model.specs.File.{opening, rowsOffset, columnsOffset, ceilingOffset, weightsOffset, cellsIn, fieldsCheck, weightBytes, weightsCheck}
 
 -- n numbers of so many bytes each. None is tested where it stands: 14 comes after the last field.
@@ -33,6 +33,10 @@ sourcesField = numbersField 9 8
 -- the fields of a film with n cells: the three that all films share, and its own four
 abbrev pub coefficientFields : ℕ → List Field
 coefficientFields n = opening n ++ (diagonalsField n ∷ rightsField n ∷ upsField n ∷ sourcesField n ∷ [])
+
+-- no field may follow them
+abbrev pub coefficientOptional : List Field
+coefficientOptional = []
 
 -- where its numbers stand: those of cell i at 4 × i, and its source at 8 × i, behind the first
 abbrev pub diagonalsOffset : ℕ → ℕ
@@ -74,7 +78,7 @@ filmIn bytes =
 -- the fields of the film whose shape stands in a file, and nothing behind them; then 14; then 9
 unfoldable pub coefficientFileCheck : List ℕ → Check
 coefficientFileCheck bytes =
-    fieldsCheck (coefficientFields (cellsIn bytes)) bytes orElse coefficientCheck (filmIn bytes) orElse dominanceCheck (filmIn bytes)
+    fieldsCheck (fieldsIn (coefficientFields (cellsIn bytes)) coefficientOptional bytes) bytes orElse coefficientCheck (filmIn bytes) orElse dominanceCheck (filmIn bytes)
 
 -- a coefficient film file is accepted, and its film is the one that stands in it; or it is refused with a number and a place
 abbrev pub readCoefficients : List ℕ → Answer Film

@@ -1,29 +1,36 @@
--- Document 01, "Coefficients", first paragraph: a film's coefficients from its thicknesses and wedge number.
+-- Document 01, "Coefficients", first paragraph, with document 02's grid steps (W2): a film's coefficients from its thicknesses, wedge number and steps.
 use mathlib.Core.Bool.{cond}
 use Prim.Native.Nat.{ℕ, _+_, _-_, _*_, _/_, _%_}
 use lib.Dec.{ltb}
 use lib.IntN.{ℤ, pos, _-ℤ_, _*ℤ_}
 use Rattle.model.specs.Lists.{tabulate}
-use Rattle.model.specs.Gauge.{Gauge, thicknessAt}
+use Rattle.model.specs.Gauge.{Gauge, thicknessAt, factorsOf}
 use Rattle.model.specs.Film.{Film}
 
--- the link of two cells with these thicknesses
-abbrev pub linkOf : ℕ → ℕ → ℕ
-linkOf a b = (a + b) * (a + b) * (a + b)
+-- the link of two cells with these thicknesses, by the factor of its direction
+abbrev pub linkOf : ℕ → ℕ → ℕ → ℕ
+linkOf factor a b = factor * ((a + b) * (a + b) * (a + b))
 
 -- cell (r, c) runs from (1, 1)
 module _ (g : Gauge) (r c : ℕ) where
+  -- a link within the row, and one between rows: those to the ring too
+  abbrev pub rowLink : ℕ → ℕ
+  rowLink d = linkOf (factorsOf (g .steps) .along) (thicknessAt g r c) (thicknessAt g r d)
+
+  abbrev pub columnLink : ℕ → ℕ
+  columnLink s = linkOf (factorsOf (g .steps) .across) (thicknessAt g r c) (thicknessAt g s c)
+
   abbrev pub leftLink : ℕ
-  leftLink = linkOf (thicknessAt g r c) (thicknessAt g r (c - 1))
+  leftLink = rowLink (c - 1)
 
   abbrev pub rightLink : ℕ
-  rightLink = linkOf (thicknessAt g r c) (thicknessAt g r (c + 1))
+  rightLink = rowLink (c + 1)
 
   abbrev pub downLink : ℕ
-  downLink = linkOf (thicknessAt g r c) (thicknessAt g (r - 1) c)
+  downLink = columnLink (r - 1)
 
   abbrev pub upLink : ℕ
-  upLink = linkOf (thicknessAt g r c) (thicknessAt g (r + 1) c)
+  upLink = columnLink (r + 1)
 
   -- all four sides count, those to the ring too
   abbrev pub formedDiagonal : ℕ
@@ -36,7 +43,7 @@ module _ (g : Gauge) (r c : ℕ) where
   abbrev pub formedUp : ℕ
   formedUp = cond (ltb r (g .rows)) upLink 0
 
-  -- wedge × (thickness of the next column − thickness of the one before)
+  -- wedge × (thickness of the next column − thickness of the one before); the steps do not touch it
   abbrev pub formedSource : ℤ
   formedSource = g .wedge *ℤ (pos (thicknessAt g r (c + 1)) -ℤ pos (thicknessAt g r (c - 1)))
 

@@ -1,4 +1,4 @@
--- Document 01, "The film file": the fields of a film's file, what the reader refuses and in what order, and the file of a film.
+-- Document 01, "The film file", and document 02, W2: the fields of a film's file, what the reader refuses and in what order, and the file of a film.
 use mathlib.Core.Path.{_≡_}
 use mathlib.Core.Bool.{Bool, not}
 use mathlib.Core.List.{List, [], _∷_, _++_}
@@ -6,15 +6,18 @@ use Prim.Native.Nat.{ℕ, _+_, _*_, _<_}
 use lib.Dec.{ltb, eqb}
 use lib.IntN.{ℤ, natAbs}
 use lib.ListN.{length, getD}
-use Rattle.model.specs.Limits.{thicknessLimit, wedgeLimit}
+use Rattle.model.specs.Limits.{thicknessLimit, wedgeLimit, stepLimit}
 use Rattle.model.specs.Lists.{tabulate}
-use Rattle.model.specs.Refusals.{Check, _orElse_, failIf, failFirst}
+use Rattle.model.specs.Refusals.{Check, pass, _orElse_, failIf, failFirst}
 use Rattle.model.specs.Gauge.{Gauge}
 use Rattle.model.specs.Coefficients.{formed}
 use Rattle.model.specs.Checks.{outside, shapeCheck, ceilingCheck, notDominant}
 use Rattle.model.specs.Result.{Answer, answerBy}
 use Rattle.model.specs.Bytes.{byteAt, wordAt, longAt, word, long, signedOf, unsignedOf, listed}
-use Rattle.model.specs.Fields.{Field, body, fieldsEnd, walk, unexpectedAt, bytesOf}
+use Rattle.model.specs.Fields.{Field, body, fieldsEnd, walk, unexpectedAt, bytesOf, Optional, absent, given, partsIn, present, givens, fieldsIn}
+use Rattle.model.specs.declared.Factors.{Factors}
+use Rattle.model.specs.declared.Steps.{Steps}
+use Rattle.model.specs.declared.Steps.the-variants as steps
 
 -- the number of cells, and of thicknesses with the boundary ring
 abbrev pub cells : ℕ → ℕ → ℕ
@@ -32,6 +35,14 @@ thicknessesFrom thickness n at = failFirst (λ j. outside (thickness j) 1 thickn
 
 abbrev pub wedgeCheck : ℤ → ℕ → Check
 wedgeCheck wedge place = failIf (ltb wedgeLimit (natAbs wedge)) 8 place
+
+-- 15, of the two steps from an offset on; and of a film's, which are not looked at where it has no field for them
+abbrev pub factorsFrom : Factors → ℕ → Check
+factorsFrom f at = failIf (outside (f .along) 1 stepLimit) 15 at orElse failIf (outside (f .across) 1 stepLimit) 15 (at + 1)
+
+abbrev pub stepsCheck : Steps → ℕ → Check
+stepsCheck steps.Absent at = pass
+stepsCheck (steps.Given f) at = factorsFrom f at
 
 -- The fields, each with the test of the values that stand in its body.
 abbrev pub shapeField : Field
@@ -54,12 +65,22 @@ thicknessesField t =
 abbrev pub wedgeField : Field
 wedgeField = record { tag = 5; size = 4; check = λ bytes at. wedgeCheck (signedOf (longAt bytes at)) at }
 
+abbrev pub factorsAt : List ℕ → ℕ → Factors
+factorsAt bytes at = record { along = byteAt bytes at; across = byteAt bytes (at + 1) }
+
+abbrev pub stepsField : Field
+stepsField = record { tag = 10; size = 2; check = λ bytes at. factorsFrom (factorsAt bytes at) at }
+
 -- The first three, which other kinds of file share; and the film's five.
 abbrev pub opening : ℕ → List Field
 opening n = shapeField ∷ ceilingField ∷ weightsField n ∷ []
 
 abbrev pub gauged : ℕ → ℕ → List Field
 gauged n t = opening n ++ (thicknessesField t ∷ wedgeField ∷ [])
+
+-- those that may follow them, in rising order of tags
+abbrev pub gaugedOptional : List Field
+gaugedOptional = stepsField ∷ []
 
 -- Where the numbers of a film of n cells and t thicknesses stand: weight i at 2 × i behind the first, thickness j at j.
 abbrev pub rowsOffset : ℕ
@@ -83,12 +104,28 @@ wedgeOffset n t = body (fieldsEnd (opening n ++ (thicknessesField t ∷ [])) 0)
 abbrev pub endOffset : ℕ → ℕ → ℕ
 endOffset n t = fieldsEnd (gauged n t) 0
 
+abbrev pub stepsOffset : ℕ → ℕ → ℕ
+stepsOffset n t = body (endOffset n t)
+
 -- the numbers of cells and of thicknesses, by the shape that stands in a file
 abbrev pub cellsIn : List ℕ → ℕ
 cellsIn bytes = cells (byteAt bytes rowsOffset) (byteAt bytes columnsOffset)
 
 abbrev pub ringIn : List ℕ → ℕ
 ringIn bytes = ringed (byteAt bytes rowsOffset) (byteAt bytes columnsOffset)
+
+-- a film's steps as the body of an optional field, and back
+abbrev pub stepsPart : Steps → Optional (List ℕ)
+stepsPart steps.Absent = absent
+stepsPart (steps.Given f) = given (f .along ∷ f .across ∷ [])
+
+abbrev pub stepsOf : Optional (List ℕ) → Steps
+stepsOf absent = steps.Absent
+stepsOf (given bytes) = steps.Given (factorsAt bytes 0)
+
+-- what a file has of the optional fields
+abbrev pub gaugedParts : List ℕ → List (Optional (List ℕ))
+gaugedParts bytes = partsIn gaugedOptional bytes (endOffset (cellsIn bytes) (ringIn bytes))
 
 -- the numbers that stand in a file
 abbrev pub gaugeIn : List ℕ → Gauge
@@ -100,6 +137,7 @@ gaugeIn bytes =
       weights = tabulate (cellsIn bytes) (λ i. wordAt bytes (weightsOffset + 2 * i));
       thicknesses = tabulate (ringIn bytes) (λ j. byteAt bytes (thicknessesOffset (cellsIn bytes) + j));
       wedge = signedOf (longAt bytes (wedgeOffset (cellsIn bytes) (ringIn bytes)));
+      steps = stepsOf (getD (gaugedParts bytes) 0 absent);
     }
 
 -- 9, of the coefficients that the film's numbers form
@@ -112,7 +150,8 @@ fieldsCheck fields bytes = walk fields bytes 0 orElse unexpectedAt bytes (fields
 
 -- the fields of the film whose shape stands in a file; then 9
 unfoldable pub fileCheck : List ℕ → Check
-fileCheck bytes = fieldsCheck (gauged (cellsIn bytes) (ringIn bytes)) bytes orElse gaugeDominance (gaugeIn bytes)
+fileCheck bytes =
+    fieldsCheck (fieldsIn (gauged (cellsIn bytes) (ringIn bytes)) gaugedOptional bytes) bytes orElse gaugeDominance (gaugeIn bytes)
 
 -- a film file is accepted, and its numbers are those that stand in it; or it is refused with a number and a place
 abbrev pub readFilm : List ℕ → Answer Gauge
@@ -126,8 +165,18 @@ abbrev pub bodies : Gauge → List (List ℕ)
 bodies g =
     (g .rows ∷ g .columns ∷ []) ∷ long (g .ceiling) ∷ weightBytes (g .weights) ∷ g .thicknesses ∷ long (unsignedOf (g .wedge)) ∷ []
 
+-- and of the optional ones
+abbrev pub parts : Gauge → List (Optional (List ℕ))
+parts g = stepsPart (g .steps) ∷ []
+
+abbrev pub gaugedFields : Gauge → List Field
+gaugedFields g = gauged (cells (g .rows) (g .columns)) (ringed (g .rows) (g .columns)) ++ present gaugedOptional (parts g)
+
+abbrev pub gaugedEnd : Gauge → ℕ
+gaugedEnd g = fieldsEnd (gaugedFields g) 0
+
 unfoldable pub fileOf : Gauge → List ℕ
-fileOf g = bytesOf (gauged (cells (g .rows) (g .columns)) (ringed (g .rows) (g .columns))) (bodies g)
+fileOf g = bytesOf (gaugedFields g) (bodies g ++ givens (parts g))
 
 -- 6 and 7 of a film's own numbers, at the offsets that they get in its file
 abbrev pub weightsCheck : List ℕ → ℕ → Check
@@ -136,13 +185,14 @@ weightsCheck weights n = weightsFrom (λ i. getD weights i 0) n weightsOffset
 abbrev pub thicknessesCheck : List ℕ → ℕ → ℕ → Check
 thicknessesCheck thicknesses n t = thicknessesFrom (λ j. getD thicknesses j 0) t (thicknessesOffset n)
 
--- the tests of calls that take a film's numbers: 4, 10, 5, 6, 7, 8, 9. `fits` says whether all slices have their lengths
+-- the tests of calls that take a film's numbers: 4, 10, 5, 6, 7, 8, 15, 9. `fits` says whether all slices have their lengths
 unfoldable pub gaugeCheck : Gauge → Bool → Check
 gaugeCheck g fits =
     shapeCheck (g .rows) rowsOffset (g .columns) columnsOffset orElse failIf (not fits) 10 0 orElse ceilingCheck (g .ceiling) ceilingOffset
     orElse weightsCheck (g .weights) (cells (g .rows) (g .columns))
     orElse thicknessesCheck (g .thicknesses) (cells (g .rows) (g .columns)) (ringed (g .rows) (g .columns))
     orElse wedgeCheck (g .wedge) (wedgeOffset (cells (g .rows) (g .columns)) (ringed (g .rows) (g .columns)))
+    orElse stepsCheck (g .steps) (stepsOffset (cells (g .rows) (g .columns)) (ringed (g .rows) (g .columns)))
     orElse gaugeDominance g
 
 -- What types and lengths say: that a file consists of bytes; and of a film's numbers as the writer takes them, that the ceiling has

@@ -1,18 +1,20 @@
 -- Document 01, "The film file" and "Coefficients": the calls that form coefficients, write a film file and read one.
 use mathlib.Core.Path.{_≡_}
 use mathlib.Core.Bool.{Bool, not, _&&_}
-use mathlib.Core.List.{List, _++_}
+use mathlib.Core.List.{List, [], _++_}
 use Prim.Native.Nat.{ℕ, _+_}
 use lib.Dec.{eqb}
-use lib.IntN.{ℤ}
+use lib.IntN.{ℤ, pos}
 use lib.ListN.{length, take, drop}
 use Rattle.model.specs.Refusals.{Check, _orElse_, failIf}
 use Rattle.model.specs.Gauge.{Gauge}
 use Rattle.model.specs.Film.{Film}
 use Rattle.model.specs.Coefficients.{formed}
 use Rattle.model.specs.Result.{Answer, answered, refusal, answerBy, kept, Result, written, callBy}
-use Rattle.model.specs.File.{cells, ringed, endOffset, gaugeIn, gaugeCheck, fileCheck, fileOf}
+use Rattle.model.specs.File.{cells, ringed, gaugeIn, gaugedEnd, gaugeCheck, fileCheck, fileOf}
 use Rattle.model.specs.declared.Head.{Head}
+use Rattle.model.specs.declared.Steps.{Steps}
+use Rattle.model.specs.declared.Steps.the-variants as steps
 use Rattle.model.specs.declared.Formed.{Formed}
 use Rattle.model.specs.declared.Formed.the-variants as formeds
 use Rattle.model.specs.declared.Saved.{Saved}
@@ -21,8 +23,8 @@ use Rattle.model.specs.declared.Loaded.{Loaded}
 use Rattle.model.specs.declared.Loaded.the-variants as loadeds
 
 -- a film's numbers as a call is lent them
-abbrev pub gaugeOf : Head → List ℕ → List ℕ → ℤ → Gauge
-gaugeOf h weights thicknesses wedge =
+abbrev pub gaugeOf : Head → List ℕ → List ℕ → ℤ → Steps → Gauge
+gaugeOf h weights thicknesses wedge steps =
     record {
       rows = h .rows;
       columns = h .columns;
@@ -30,7 +32,12 @@ gaugeOf h weights thicknesses wedge =
       weights = weights;
       thicknesses = thicknesses;
       wedge = wedge;
+      steps = steps;
     }
+
+-- its shape and thicknesses alone, where nothing else counts
+abbrev pub bareOf : Head → List ℕ → Gauge
+bareOf h thicknesses = gaugeOf h [] thicknesses (pos 0) steps.Absent
 
 -- the slices of a film's numbers have exactly their lengths
 abbrev pub gaugeFits : Gauge → Bool
@@ -65,26 +72,25 @@ pub record Forms (g : Gauge) (diagonals rights ups : List ℕ) (sources : List �
 
 -- Writing: a lent slice of exactly the file's length.
 abbrev pub saveCheck : Gauge → List ℕ → Check
-saveCheck g out =
-    gaugeCheck g (gaugeFits g && eqb (length out) (endOffset (cells (g .rows) (g .columns)) (ringed (g .rows) (g .columns))))
+saveCheck g out = gaugeCheck g (gaugeFits g && eqb (length out) (gaugedEnd g))
 
 abbrev pub saveCall : Gauge → List ℕ → Result (Answer (Unit {0}))
 saveCall g out = callBy (saveCheck g out) (written (fileOf g)) out
 
 -- Reading: lent buffers of 1,024 weights and 1,156 thicknesses; places beyond those used keep their contents.
 pub data LoadAnswer : Type 0 where
-  film : Head → ℤ → LoadAnswer
+  film : Head → ℤ → Steps → LoadAnswer
 
 abbrev pub loadAnswerOf : Loaded → Answer LoadAnswer
-loadAnswerOf (loadeds.Film h wedge) = answered (film h wedge)
+loadAnswerOf (loadeds.Film h wedge steps) = answered (film h wedge steps)
 loadAnswerOf (loadeds.Refused r) = refusal r
 
--- what is answered of a film's numbers: shape, ceiling and wedge
+-- what is answered of a film's numbers: shape, ceiling, wedge and steps
 abbrev pub headOf : Gauge → Head
 headOf g = record { rows = g .rows; columns = g .columns; ceiling = g .ceiling }
 
 abbrev pub loadAnswer : Gauge → LoadAnswer
-loadAnswer g = film (headOf g) (g .wedge)
+loadAnswer g = film (headOf g) (g .wedge) (g .steps)
 
 abbrev pub loadCheck : List ℕ → List ℕ → List ℕ → Check
 loadCheck bytes weights thicknesses =
@@ -106,6 +112,6 @@ pub record ReadsBack (g : Gauge) (weights thicknesses : List ℕ) (answer : Answ
   pub thicknesses-are : thicknesses′ ≡ laidOver (g .thicknesses) thicknesses
 
 -- the film whose numbers stand at the starts of a reader's buffers
-abbrev pub used : Head → ℤ → List ℕ → List ℕ → Gauge
-used h wedge weights thicknesses =
-    gaugeOf h (take (cells (h .rows) (h .columns)) weights) (take (ringed (h .rows) (h .columns)) thicknesses) wedge
+abbrev pub used : Head → ℤ → Steps → List ℕ → List ℕ → Gauge
+used h wedge steps weights thicknesses =
+    gaugeOf h (take (cells (h .rows) (h .columns)) weights) (take (ringed (h .rows) (h .columns)) thicknesses) wedge steps

@@ -4,7 +4,7 @@ use mathlib.Core.Bool.{true, false}
 use mathlib.Core.List.{List, [], _∷_, _++_}
 use Prim.Native.Nat.{ℕ}
 use lib.IntN.{ℤ, pos, negsuc}
-use lib.ListN.{take, set}
+use lib.ListN.{take, drop, set}
 use Rattle.model.specs.Gauge.{Gauge}
 use Rattle.model.specs.Film.{Film, slack}
 use Rattle.model.specs.Coefficients.{formed}
@@ -16,6 +16,8 @@ use Rattle.model.specs.Run.{RunAnswer, done, stopped, over, runCall}
 use Rattle.model.specs.File.{columnsOffset, readFilm, fileOf}
 use Rattle.model.specs.CoefficientFile.{readCoefficients, coefficientFileOf}
 use Rattle.model.specs.declared.Counts.{Counts}
+use Rattle.model.specs.declared.Steps.{Steps}
+use Rattle.model.specs.declared.Steps.the-variants as steps
 
 -- 1 row, 2 columns, weights 1 1, boundary rows all 1, middle row 3 2 1 1
 abbrev pub gaugeF : ℕ → ℤ → Gauge
@@ -27,6 +29,7 @@ gaugeF ceiling wedge =
       weights = 1 ∷ 1 ∷ [];
       thicknesses = 1 ∷ 1 ∷ 1 ∷ 1 ∷ 3 ∷ 2 ∷ 1 ∷ 1 ∷ 1 ∷ 1 ∷ 1 ∷ 1 ∷ [];
       wedge = wedge;
+      steps = steps.Absent;
     }
 
 abbrev pub filmF : Film
@@ -141,3 +144,45 @@ pub record CoefficientEdges : Type 0 where
   pub source-least : readCoefficients (set (set (set (set (set (set (set (set convertedF 63 0x80) 64 0) 65 0) 66 0) 67 0) 68 0) 69 0) 70 0) ≡ refused 14 1
   pub link-out : readCoefficients (set convertedF 40 1) ≡ refused 14 1
   pub not-dominant : readCoefficients (set convertedF 25 0x1b) ≡ refused 9 0
+
+-- Document 02, W2: the film with a field 0A, whose tag, length and two steps stand behind its five; and its coefficients
+abbrev pub stepBytes : ℕ → ℕ → List ℕ
+stepBytes along across = 0x0a ∷ 0x00 ∷ 0x02 ∷ along ∷ across ∷ []
+
+abbrev pub steppedF : Steps → Gauge
+steppedF grid =
+    record {
+      rows = 1;
+      columns = 2;
+      ceiling = 100;
+      weights = gaugeF 100 (pos 100) .weights;
+      thicknesses = gaugeF 100 (pos 100) .thicknesses;
+      wedge = pos 100;
+      steps = grid;
+    }
+
+abbrev pub stepsOn : ℕ → ℕ → Steps
+stepsOn along across = steps.Given (record { along = along; across = across })
+
+-- Links within the row are 125 and 27 along, times 2, those to the ring rows 27 and 8, times 3; the right end's link is 8. Then files that differ: the
+-- tag is looked at before the header, 15 stands before stray, and what was given as 1 1 is written so.
+pub record StepEdges : Type 0 where
+  pub diagonals : formed (steppedF (stepsOn 2 3)) .diagonals ≡ 466 ∷ 118 ∷ []
+  pub links : formed (steppedF (stepsOn 2 3)) .rights ≡ 54 ∷ 0 ∷ []
+  pub sources : formed (steppedF (stepsOn 2 3)) .sources ≡ filmF .sources
+  pub reads : readFilm (bytesF ++ stepBytes 2 3) ≡ answered (steppedF (stepsOn 2 3))
+  pub writes : fileOf (steppedF (stepsOn 2 3)) ≡ bytesF ++ stepBytes 2 3
+  pub ones-read : readFilm (bytesF ++ stepBytes 1 1) ≡ answered (steppedF (stepsOn 1 1))
+  pub ones-written : fileOf (steppedF (stepsOn 1 1)) ≡ bytesF ++ stepBytes 1 1
+  pub ones-formed : formed (steppedF (stepsOn 1 1)) ≡ filmF
+  pub tag-alone : readFilm (bytesF ++ (0x0a ∷ [])) ≡ refused 1 42
+  pub other-tag : readFilm (bytesF ++ (0x0b ∷ [])) ≡ refused 2 41
+  pub without-last : readFilm (bytesF ++ take 4 (stepBytes 2 3)) ≡ refused 1 45
+  pub of-three : readFilm (bytesF ++ set (stepBytes 2 3) 2 3) ≡ refused 3 41
+  pub along-0 : readFilm (bytesF ++ stepBytes 0 5) ≡ refused 15 44
+  pub across-5 : readFilm (bytesF ++ stepBytes 4 5) ≡ refused 15 45
+  pub before-stray : readFilm (bytesF ++ stepBytes 5 1 ++ (0 ∷ [])) ≡ refused 15 44
+  pub twice : readFilm (bytesF ++ stepBytes 2 3 ++ stepBytes 2 3) ≡ refused 2 46
+  pub before-05 : readFilm (take 34 bytesF ++ stepBytes 2 3 ++ drop 34 bytesF) ≡ refused 2 34
+  pub in-coefficients : readCoefficients (convertedF ++ stepBytes 2 3) ≡ refused 2 71
+  pub converted : reportOf (coefficientFileOf (formed (steppedF (stepsOn 2 3)))) ≡ reportOf (bytesF ++ stepBytes 2 3)

@@ -1,4 +1,4 @@
--- Document 01's limits.
+-- Document 01's limits, and document 02's (W2).
 use Prim.Native.Nat.{ℕ}
 
 -- rows and columns
@@ -16,11 +16,15 @@ thicknessLimit = 128
 abbrev pub wedgeLimit : ℕ
 wedgeLimit = 1000000000
 
+-- along and across
+abbrev pub stepLimit : ℕ
+stepLimit = 4
+
 abbrev pub diagonalLimit : ℕ
-diagonalLimit = 134217728
+diagonalLimit = 268435456
 
 abbrev pub linkLimit : ℕ
-linkLimit = 16777216
+linkLimit = 67108864
 
 -- either way from 0
 abbrev pub sourceLimit : ℕ

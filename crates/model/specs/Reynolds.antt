@@ -4,14 +4,19 @@
 --
 -- is differenced over the four sides of a cell, with h on a side half-way between the two cells that it parts. All thicknesses are
 -- doubled, so that everything is whole: twice the half-way thickness is the sum of the two, and the cube of the sum is eight times
--- the cube. Grid steps are equal. The pressure on the boundary ring is 0.
+-- the cube. The pressure on the boundary ring is 0.
+--
+-- With grid steps Δx along the rows and Δy across them, the difference of flux along is divided by Δx² and that across by Δy². The whole is taken
+-- S² times, for some length S, so that the two factors are whole numbers: along is S² / Δx² and across S² / Δy². So along / across is the squared ratio
+-- of steps, (Δy / Δx)²: a pad gauged at half as fine a step across has along 4 and across 1, equal steps have 1 and 1. What S² and Δx make of
+-- the wedge term is in the wedge number.
 use mathlib.Core.Bool.{Bool, cond, _&&_}
 use mathlib.Core.List.{List}
 use Prim.Native.Nat.{ℕ, _+_, _-_, _*_}
 use lib.Dec.{leb}
 use lib.IntN.{ℤ, pos, _+ℤ_, _-ℤ_, _*ℤ_}
 use lib.ListN.{getD}
-use Rattle.model.specs.Gauge.{Gauge, thicknessAt}
+use Rattle.model.specs.Gauge.{Gauge, thicknessAt, factorsOf}
 
 module _ (g : Gauge) (p : List ℕ) where
   -- whether (r, c) is a cell, and not of the ring
@@ -32,16 +37,16 @@ module _ (g : Gauge) (p : List ℕ) where
   abbrev pub flux : ℕ → ℕ → ℕ → ℕ → ℤ
   flux r c s d = pos (cube (doubled r c s d)) *ℤ (pos (pressureAt s d) -ℤ pos (pressureAt r c))
 
-  -- the difference of flux along the row, and across the rows
-  abbrev pub along : ℕ → ℕ → ℤ
-  along r c = flux r c r (c + 1) -ℤ flux r (c - 1) r c
+  -- the difference of flux along the row, and across the rows, each by the factor of its step
+  abbrev pub alongRow : ℕ → ℕ → ℤ
+  alongRow r c = pos (factorsOf (g .steps) .along) *ℤ (flux r c r (c + 1) -ℤ flux r (c - 1) r c)
 
   abbrev pub acrossRows : ℕ → ℕ → ℤ
-  acrossRows r c = flux r c (r + 1) c -ℤ flux (r - 1) c r c
+  acrossRows r c = pos (factorsOf (g .steps) .across) *ℤ (flux r c (r + 1) c -ℤ flux (r - 1) c r c)
 
   abbrev pub wedgeTerm : ℕ → ℕ → ℤ
   wedgeTerm r c = g .wedge *ℤ (pos (thicknessAt g r (c + 1)) -ℤ pos (thicknessAt g r (c - 1)))
 
   -- what the equation leaves at cell (r, c): 0 in the full film, at least 0 where it cavitates
   abbrev pub reynolds : ℕ → ℕ → ℤ
-  reynolds r c = wedgeTerm r c -ℤ (along r c +ℤ acrossRows r c)
+  reynolds r c = wedgeTerm r c -ℤ (alongRow r c +ℤ acrossRows r c)

@@ -10,17 +10,19 @@ use Rattle.model.specs.Result.{Answer, answered}
 use Rattle.model.specs.FileCalls.{used, film, Loads, Forms}
 use Rattle.model.specs.CoefficientCalls.{usedFilm, LoadsCoefficients}
 use Rattle.model.specs.declared.Head.{Head}
+use Rattle.model.specs.declared.Steps.{Steps}
 
 -- a gauged film, by `read` and `form`
 pub record GaugedSession (bytes : List ℕ) (f : Film) : Type 0 where
   -- the file was read: what the reader answered, and its buffers before and after
   pub head : Head
   pub wedge : ℤ
+  pub steps : Steps
   pub weights : List ℕ
   pub thicknesses : List ℕ
   pub weights′ : List ℕ
   pub thicknesses′ : List ℕ
-  pub loads : Loads bytes weights thicknesses (answered (film head wedge)) weights′ thicknesses′
+  pub loads : Loads bytes weights thicknesses (answered (film head wedge steps)) weights′ thicknesses′
   -- coefficients were formed from the numbers at the buffers' starts: what was answered, and four slices of N before and after
   pub answer : Answer (Unit {0})
   pub diagonals : List ℕ
@@ -35,7 +37,7 @@ pub record GaugedSession (bytes : List ℕ) (f : Film) : Type 0 where
   pub rights′ : List ℕ
   pub ups′ : List ℕ
   pub sources′ : List ℤ
-  pub forms : Forms (used head wedge weights′ thicknesses′) diagonals rights ups sources answer diagonals′ rights′ ups′ sources′
+  pub forms : Forms (used head wedge steps weights′ thicknesses′) diagonals rights ups sources answer diagonals′ rights′ ups′ sources′
   -- these slices, with the weights, are lent to every run and proposal
   pub lent : f ≡ filmOf head (take (head .rows * head .columns) weights′) diagonals′ rights′ ups′ sources′
 

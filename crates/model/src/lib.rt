@@ -87,9 +87,21 @@ pub enum Saved {
     Refused(Refusal),
 }
 
-// The answer of the film file's reader: shape, ceiling and wedge; weights and thicknesses are in the lent buffers.
+// Document 02, W2: what links within a row, and between rows, are multiplied by.
+pub struct Factors {
+    pub along: u32,
+    pub across: u32,
+}
+
+// A film's grid steps: it has no field for them, or that field with two factors.
+pub enum Steps {
+    Absent,
+    Given(Factors),
+}
+
+// The answer of the film file's reader: shape, ceiling, wedge and grid steps; weights and thicknesses are in the lent buffers.
 pub enum Loaded {
-    Film(Head, i32),
+    Film(Head, i32, Steps),
     Refused(Refusal),
 }
 

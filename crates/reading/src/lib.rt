@@ -8,11 +8,13 @@ ghost use lib.ListN.{length, take};
 ghost use Rattle.model.specs.Lists.{tabulate};
 ghost use Rattle.model.specs.Refusals.{pass};
 ghost use Rattle.model.specs.Bytes.{wordAt};
-ghost use Rattle.model.specs.File.{gauged, weightsOffset, cellsIn, ringIn, gaugeIn, gaugeDominance, fieldsCheck};
+ghost use Rattle.model.specs.Fields.{fieldsIn, partAt};
+ghost use Rattle.model.specs.File.{stepsField, gauged, gaugedOptional, weightsOffset, cellsIn, ringIn, stepsOf, gaugeIn, gaugeDominance, fieldsCheck};
 ghost use Rattle.model.specs.FileCalls.{headOf, loadAnswerOf};
 ghost use Rattle.reading.specs.Reading.{LoadsBy};
 use model::Head;
 use model::Loaded;
+use model::Steps;
 use model::Tested;
 
 // The shape and the ceiling that stand in a file.
@@ -39,10 +41,21 @@ pub fn weights_in(file: &[u8], n: usize, weights: &mut [u16])
     }
 }
 
+// The steps that stand behind the last field that all gauged films have; the tag there says whether the film has them.
+fn steps_in(file: &[u8], at: usize) -> Steps
+    requires { ⌜ at ≤ 5000 ⌝ }
+    ensures { λ r. ⌜ r ≡ stepsOf (partAt stepsField (now (file .entry)) at) ⌝ }
+{
+    if words::numbers::byte_at(file, at) == 10 {
+        return Steps::Given(values::factors_at(file, at + 3));
+    }
+    Steps::Absent
+}
+
 // Reads a file whose fields have passed their tests. Refusal 9 is still to be tested, and the lent buffers are written after it: until then
 // the weights are in a table of its own, and the thicknesses stay where they stand.
 pub fn read_fields(file: &[u8], weights: &mut [u16], thicknesses: &mut [u8]) -> Loaded
-    requires { ⌜ fieldsCheck (gauged (cellsIn (now file)) (ringIn (now file))) (now file) ≡ pass ⌝ }
+    requires { ⌜ fieldsCheck (fieldsIn (gauged (cellsIn (now file)) (ringIn (now file))) gaugedOptional (now file)) (now file) ≡ pass ⌝ }
     requires { ⌜ (length (now weights) ≡ 1024) × (length (now thicknesses) ≡ 1156) ⌝ }
     ensures { λ r. ⌜ LoadsBy (gaugeDominance (gaugeIn (now (file .entry)))) (gaugeIn (now (file .entry))) (now (weights .entry)) (now (thicknesses .entry)) (loadAnswerOf r) (now (weights .exit)) (now (thicknesses .exit)) ⌝ }
 {
@@ -53,12 +66,13 @@ pub fn read_fields(file: &[u8], weights: &mut [u16], thicknesses: &mut [u8]) -> 
     let end = from + t;
     let mut words = [0u16; 1024];
     weights_in(file, n, &mut words);
+    let steps = steps_in(file, end + 3 + 4);
     let wedge = words::numbers::signed(words::numbers::long_at(file, end + 3));
-    match row_sums::dominance_test(head, &words[..n], &file[from..end]) {
+    match row_sums::dominance_test(head, &words[..n], &file[from..end], steps) {
         Tested::Fine => {
             words::put::put_words(weights, &words[..n]);
             text::put_bytes(thicknesses, 0, &file[from..end]);
-            Loaded::Film(head, wedge)
+            Loaded::Film(head, wedge, steps)
         }
         Tested::Refused(r) => Loaded::Refused(r),
     }

@@ -51,7 +51,7 @@ pub fn pull(
 ) -> u64
     requires { ⌜ (head .rows ≤ 32) × (head .columns ≤ 32) × (length (now weights) ≡ head .rows * head .columns) ⌝ }
     requires { ⌜ (1 ≤ row) × (row ≤ head .rows) × (1 ≤ column) × (column ≤ head .columns) ⌝ }
-    requires { ⌜ (left ≤ 2 ^ 27) × (right ≤ 2 ^ 27) × (down ≤ 2 ^ 27) × (up ≤ 2 ^ 27) ⌝ }
+    requires { ⌜ (left ≤ 2 ^ 29) × (right ≤ 2 ^ 29) × (down ≤ 2 ^ 29) × (up ≤ 2 ^ 29) ⌝ }
     ensures { λ r. ⌜ r ≡ weightsPull head (now (weights .entry)) row column left right down up ⌝ }
 {
     let rows = head.rows as usize;

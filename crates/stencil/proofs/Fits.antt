@@ -8,6 +8,7 @@ use lib.Signed.{mag}
 use mir.Syntax.{w32, w64}
 use mir.Val.{SFits, toZ, ofZ}
 use mir.Facts.{toZ-ofZ, sfits-widen}
+use Rattle.model.specs.Limits.{stepLimit}
 use Rattle.model.specs.Coefficients.{linkOf}
 use Rattle.model.proofs.Forming.{abs-mul, abs-sub}
 use Rattle.stencil.specs.Cell.{sourceOf}
@@ -31,8 +32,12 @@ module _ (a b : ℕ) (h : a < 256) (k : b < 256) where
   pub square-low : (a + b) * (a + b) ≤ 510 * 510
   square-low = mul-le-mul sum-low sum-low
 
-  pub link-low : linkOf a b ≤ 510 * 510 * 510
-  link-low = mul-le-mul square-low sum-low
+  pub cube-low : (a + b) * (a + b) * (a + b) ≤ 510 * 510 * 510
+  cube-low = mul-le-mul square-low sum-low
+
+  -- and that times a factor
+  pub link-low : (f : ℕ) → f ≤ stepLimit → linkOf f a b ≤ stepLimit * (510 * 510 * 510)
+  link-low f l = mul-le-mul l cube-low
 
 -- the source, with a wedge number of 32 bits
 mag-low : (z : ℤ) → mag z ≤ natAbs z

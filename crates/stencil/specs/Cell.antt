@@ -1,8 +1,9 @@
--- The coefficients of one cell, from the thicknesses of the cell and of the four beside it.
+-- The coefficients of one cell, from the thicknesses of the cell and of the four beside it, and the factors of the film's steps.
 use mathlib.Core.Bool.{Bool, cond}
 use Prim.Native.Nat.{ℕ, _+_}
 use lib.IntN.{ℤ, pos, _-ℤ_, _*ℤ_}
 use Rattle.model.specs.Coefficients.{linkOf}
+use Rattle.model.specs.declared.Factors.{Factors}
 use Rattle.stencil.specs.declared.Around.{Around}
 use Rattle.stencil.specs.declared.Links.{Links}
 use Rattle.stencil.specs.declared.Coefficients.{Coefficients}
@@ -12,22 +13,24 @@ abbrev pub sourceOf : ℤ → ℕ → ℕ → ℤ
 sourceOf wedge next last = wedge *ℤ (pos next -ℤ pos last)
 
 -- the four links, and their sum
-abbrev pub linksOf : Around → Links
-linksOf a =
+abbrev pub linksOf : Around → Factors → Links
+linksOf a f =
     record {
-      left = linkOf (a .own) (a .left);
-      right = linkOf (a .own) (a .right);
-      down = linkOf (a .own) (a .down);
-      up = linkOf (a .own) (a .up);
-      sum = linkOf (a .own) (a .left) + linkOf (a .own) (a .right) + linkOf (a .own) (a .down) + linkOf (a .own) (a .up);
+      left = linkOf (f .along) (a .own) (a .left);
+      right = linkOf (f .along) (a .own) (a .right);
+      down = linkOf (f .across) (a .own) (a .down);
+      up = linkOf (f .across) (a .own) (a .up);
+      sum =
+          linkOf (f .along) (a .own) (a .left) + linkOf (f .along) (a .own) (a .right) + linkOf (f .across) (a .own) (a .down)
+          + linkOf (f .across) (a .own) (a .up);
     }
 
 -- a link is counted if it stays in the grid
-abbrev pub coefficientsOf : Around → ℤ → Bool → Bool → Coefficients
-coefficientsOf a wedge inRow inColumn =
+abbrev pub coefficientsOf : Around → Factors → ℤ → Bool → Bool → Coefficients
+coefficientsOf a f wedge inRow inColumn =
     record {
-      diagonal = linksOf a .sum;
-      right = cond inRow (linksOf a .right) 0;
-      up = cond inColumn (linksOf a .up) 0;
+      diagonal = linksOf a f .sum;
+      right = cond inRow (linksOf a f .right) 0;
+      up = cond inColumn (linksOf a f .up) 0;
       source = sourceOf wedge (a .right) (a .left);
     }

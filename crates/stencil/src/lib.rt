@@ -1,11 +1,16 @@
-// A cell's links, diagonal and source from its own thickness and the four beside it (the five-point stencil), on plain values. Internal: `forming`
-// makes a film's coefficients of it, and `row_sums` takes a cell's links.
+// A cell's links, diagonal and source from its own thickness, the four beside it (the five-point stencil) and the factors of the film's grid steps, on
+// plain values. Internal: `forming` makes a film's coefficients of it, and `row_sums` takes a cell's links.
 //
-// Proved: each number is document 01's (crate `model`: Coefficients), and fits its type whatever thicknesses of 8 bits and wedge number of 32 it is made of.
+// Proved: each number is document 01's (crate `model`: Coefficients), and fits its type whatever thicknesses of 8 bits and wedge number of 32 it is made of,
+// with factors within their limits.
 ghost use mathlib.Core.Path.{_≡_};
 ghost use mathlib.Core.Bool.{cond};
+ghost use Prim.Native.Nat.{_≤_};
+ghost use Rattle.model.specs.Gauge.{factorsOf, Stepped};
 ghost use Rattle.model.specs.Coefficients.{linkOf};
 ghost use Rattle.stencil.specs.Cell.{linksOf, sourceOf, coefficientsOf};
+use model::Factors;
+use model::Steps;
 
 // The thicknesses of a cell and of the four beside it, those of the boundary ring too.
 pub struct Around {
@@ -32,21 +37,37 @@ pub struct Coefficients {
     pub source: i64,
 }
 
-// The link of two cells: the cube of the sum of their thicknesses.
-fn link(a: u8, b: u8) -> u32
-    ensures { λ r. ⌜ r ≡ linkOf a b ⌝ }
+// What links within a row and links between rows are multiplied by: 1 and 1, unless the film has a field for them.
+pub fn factors_of(steps: Steps) -> Factors
+    ensures { λ r. ⌜ r ≡ factorsOf steps ⌝ }
 {
-    let sum = (a as u32) + (b as u32);
-    sum * sum * sum
+    match steps {
+        Steps::Absent => Factors {
+            along: 1,
+            across: 1,
+        },
+        Steps::Given(factors) => factors,
+    }
 }
 
-pub fn links_of(around: Around) -> Links
-    ensures { λ r. ⌜ r ≡ linksOf around ⌝ }
+// The link of two cells: the cube of the sum of their thicknesses, times the factor of its direction. At most 510 × 510 × 510 × 4: all of it is
+// worked in 32 bits.
+fn link(factor: u32, a: u8, b: u8) -> u32
+    requires { ⌜ factor ≤ 4 ⌝ }
+    ensures { λ r. ⌜ r ≡ linkOf factor a b ⌝ }
 {
-    let left = link(around.own, around.left);
-    let right = link(around.own, around.right);
-    let down = link(around.own, around.down);
-    let up = link(around.own, around.up);
+    let sum = (a as u32) + (b as u32);
+    factor * (sum * sum * sum)
+}
+
+pub fn links_of(around: Around, factors: Factors) -> Links
+    requires { ⌜ Stepped factors ⌝ }
+    ensures { λ r. ⌜ r ≡ linksOf around factors ⌝ }
+{
+    let left = link(factors.along, around.own, around.left);
+    let right = link(factors.along, around.own, around.right);
+    let down = link(factors.across, around.own, around.down);
+    let up = link(factors.across, around.own, around.up);
     Links {
         left,
         right,
@@ -74,10 +95,17 @@ fn source_of(wedge: i32, next: u8, last: u8) -> i64
 }
 
 // The coefficients of a cell; `in_row` and `in_column` say whether its right and its up link stay in the grid.
-pub fn coefficients_of(around: Around, wedge: i32, in_row: bool, in_column: bool) -> Coefficients
-    ensures { λ r. ⌜ r ≡ coefficientsOf around wedge in_row in_column ⌝ }
+pub fn coefficients_of(
+    around: Around,
+    factors: Factors,
+    wedge: i32,
+    in_row: bool,
+    in_column: bool,
+) -> Coefficients
+    requires { ⌜ Stepped factors ⌝ }
+    ensures { λ r. ⌜ r ≡ coefficientsOf around factors wedge in_row in_column ⌝ }
 {
-    let links = links_of(around);
+    let links = links_of(around, factors);
     Coefficients {
         diagonal: links.sum,
         right: link_if(in_row, links.right),

@@ -1,22 +1,24 @@
 // What a caller in C is told of the calls on film files and on a film's own numbers: as crate `tell`, with a function for each call. Bytes,
 // weights, thicknesses and coefficients are in the caller's slices already; what is told here are the numbers beside them: a report's
-// length, and the head and wedge of a film that was read.
+// length, and the head, wedge and grid steps of a film that was read.
 //
 // Internal: crates `film_c`, `film_c_form` and `film_c_coefficients` call it, and include/film.h says for C what the numbers mean.
 //
 // Proved: the number returned is 0 or the refusal's, and each lent number and array holds what specs/ says of the answer. A refusal
 // writes its place and nothing else; an answer leaves the place as it was.
+ghost use mathlib.Core.Path.{_≡_};
 ghost use Rattle.model.specs.Result.{refusalIn};
 ghost use Rattle.model.specs.FileCalls.{loadAnswerOf, saveAnswerOf, formAnswerOf};
 ghost use Rattle.model.specs.CoefficientCalls.{coefficientsAnswerOf};
 ghost use Rattle.model.specs.ReportCall.{reportAnswerOf};
 ghost use Rattle.told.specs.Refused.{Told};
-ghost use Rattle.tell_files.specs.Files.{ReportTold, LoadTold, HeadTold};
+ghost use Rattle.tell_files.specs.Files.{ReportTold, stepsNumbers, LoadTold, HeadTold};
 use model::Formed;
 use model::Loaded;
 use model::LoadedCoefficients;
 use model::Reported;
 use model::Saved;
+use model::Steps;
 
 // A report, which is in its own slice: its length.
 pub fn report(answer: Reported, length: &mut usize, place: &mut usize) -> u32
@@ -31,14 +33,35 @@ pub fn report(answer: Reported, length: &mut usize, place: &mut usize) -> u32
     }
 }
 
-// A film that was read, whose weights and thicknesses are in their own slices: its shape, ceiling and wedge.
-pub fn read(answer: Loaded, head: &mut [u32; 3], wedge: &mut i32, place: &mut usize) -> u32
-    ensures { λ r. ⌜ LoadTold (loadAnswerOf answer) (now (head .entry)) (now (wedge .entry)) (now (place .entry)) r (now (head .exit)) (now (wedge .exit)) (now (place .exit)) ⌝ }
+// A film's grid steps: whether it has a field for them, 1 or 0, and the two. Where it has none, the two stay as they were.
+fn steps_told(grid: Steps, steps: &mut [u32; 3])
+    ensures { λ r. ⌜ now (steps .exit) ≡ stepsNumbers grid (now (steps .entry)) ⌝ }
+{
+    match grid {
+        Steps::Absent => {
+            steps[0] = 0;
+        }
+        Steps::Given(factors) => {
+            *steps = [1, factors.along, factors.across];
+        }
+    }
+}
+
+// A film that was read, whose weights and thicknesses are in their own slices: its shape, ceiling, wedge and grid steps.
+pub fn read(
+    answer: Loaded,
+    head: &mut [u32; 3],
+    wedge: &mut i32,
+    steps: &mut [u32; 3],
+    place: &mut usize,
+) -> u32
+    ensures { λ r. ⌜ LoadTold (loadAnswerOf answer) (now (head .entry)) (now (wedge .entry)) (now (steps .entry)) (now (place .entry)) r (now (head .exit)) (now (wedge .exit)) (now (steps .exit)) (now (place .exit)) ⌝ }
 {
     match answer {
-        Loaded::Film(h, w) => {
+        Loaded::Film(h, w, s) => {
             *head = [h.rows, h.columns, h.ceiling];
             *wedge = w;
+            steps_told(s, steps);
             0
         }
         Loaded::Refused(r) => told::refused(r, place),

@@ -7,8 +7,9 @@ ghost use lib.ListN.{length};
 ghost use Rattle.model.specs.Refusals.{checkOf};
 ghost use Rattle.model.specs.Checks.{shapeCheck, ceilingCheck};
 ghost use Rattle.model.specs.Bytes.{byteAt, wordAt, longAt, signedOf};
-ghost use Rattle.model.specs.File.{weightsFrom, thicknessesFrom, wedgeCheck};
+ghost use Rattle.model.specs.File.{weightsFrom, thicknessesFrom, wedgeCheck, factorsFrom, factorsAt};
 use fault::Fault;
+use model::Factors;
 use model::Refusal;
 use model::Tested;
 
@@ -65,4 +66,23 @@ pub fn wedge_values(file: &[u8], at: usize) -> Tested
 {
     let wedge = words::numbers::signed(words::numbers::long_at(file, at));
     list_tests::wedge_test(wedge, at)
+}
+
+// The two steps at `at`.
+pub fn factors_at(file: &[u8], at: usize) -> Factors
+    requires { ⌜ at ≤ 6000000 ⌝ }
+    ensures { λ r. ⌜ r ≡ factorsAt (now (file .entry)) at ⌝ }
+{
+    Factors {
+        along: words::numbers::byte_at(file, at) as u32,
+        across: words::numbers::byte_at(file, at + 1) as u32,
+    }
+}
+
+// Refusal 15, of these.
+pub fn steps_values(file: &[u8], at: usize) -> Tested
+    requires { ⌜ at ≤ 6000000 ⌝ }
+    ensures { λ r. ⌜ checkOf r ≡ factorsFrom (factorsAt (now (file .entry)) at) at ⌝ }
+{
+    step_tests::factors_test(factors_at(file, at), at)
 }

@@ -53,7 +53,8 @@ pub fn compare_report(trial: &mut Trial, file: &[u8]) -> Compared {
     trial.ended(differences)
 }
 
-type Numbers = (Head, Vec<u16>, Vec<u8>, i32);
+/// Head, weights, thicknesses, wedge and steps.
+type Numbers = (Head, Vec<u16>, Vec<u8>, i32, Option<[u32; 2]>);
 
 fn numbers(film: &Film) -> Numbers {
     (
@@ -61,6 +62,7 @@ fn numbers(film: &Film) -> Numbers {
         film.weights.clone(),
         film.thickness.clone(),
         film.wedge,
+        film.steps.map(|steps| [steps.along, steps.across]),
     )
 }
 
@@ -71,7 +73,8 @@ fn read_numbers(film: &film::Film) -> Numbers {
         ceiling: film.ceiling(),
     };
     let (weights, thicknesses) = (film.weights().to_vec(), film.thicknesses().to_vec());
-    (head, weights, thicknesses, film.wedge())
+    let steps = film.steps().map(|steps| [steps.along, steps.across]);
+    (head, weights, thicknesses, film.wedge(), steps)
 }
 
 /// Head, weights, diagonals, rights, ups and sources.

@@ -4,7 +4,7 @@
 use crate::lent::{Differences, Lent};
 use crate::numbers::{head, Gauge, Problem, Sides};
 use crate::tally::{answer, Tally};
-use crate::trial::{refusals, with_gauge, UNSET_HEAD, UNSET_PLACE};
+use crate::trial::{refusals, with_gauge, UNSET_HEAD, UNSET_PLACE, UNSET_STEPS};
 use film::raw::{self, Formed};
 use film_oracle::calls::{self, Buffers};
 use film_oracle::coefficient_film::COEFFICIENT_BUFFER;
@@ -180,12 +180,15 @@ fn loaded(file: &[u8], cells: usize) -> Result<Problem, u32> {
 fn formed(file: &[u8], film: &Film) -> Result<Problem, u32> {
     let (mut weights, mut thicknesses) = (vec![0; WEIGHT_BUFFER], vec![0; THICKNESS_BUFFER]);
     let (mut head, mut wedge, mut place) = (UNSET_HEAD, 0, UNSET_PLACE);
+    // Lent on as reading leaves them: the call that forms looks at those of the film alone.
+    let mut steps = UNSET_STEPS;
     answered(raw::read(
         file,
         &mut weights,
         &mut thicknesses,
         &mut head,
         &mut wedge,
+        &mut steps,
         &mut place,
     ))?;
     weights.truncate(film.cells());
@@ -203,6 +206,7 @@ fn formed(file: &[u8], film: &Film) -> Result<Problem, u32> {
         weights: &weights,
         thicknesses: &thicknesses,
         wedge,
+        steps: &steps,
     };
     let lent = Formed {
         diagonals: &mut told.diagonals,

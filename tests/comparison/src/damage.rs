@@ -1,12 +1,16 @@
 //! Damage to film files, and to what callers give: one fault at least is likely, several are not
 //! rare, and the one that is tested first must be named.
 
-use crate::films::{HIGHEST_CEILING, HIGHEST_WEDGE};
+use crate::films::{self, HIGHEST_CEILING, HIGHEST_WEDGE};
 use crate::numbers::{Gauge, Problem};
 use crate::problems::{HIGHEST_DIAGONAL, HIGHEST_LINK, HIGHEST_SOURCE};
 use crate::random::Random;
+use film::raw;
 use film_oracle::coefficient_film;
-use film_oracle::film::{thickness_count, write, Film};
+use film_oracle::film::{thickness_count, write, Film, Steps};
+
+/// The tag of the grid steps.
+const STEPS: u8 = 0x0a;
 
 /// A file from an accepted film's, with faults of every class of byte.
 pub fn file(random: &mut Random, film: &Film) -> Vec<u8> {
@@ -19,11 +23,61 @@ pub fn file(random: &mut Random, film: &Film) -> Vec<u8> {
         damage_values(random, &mut film);
         times -= 1;
     }
+    if random.chance(35) {
+        film.steps = None;
+        let headers = headers(&film);
+        let mut bytes = write(&film);
+        add_steps(random, &headers, &mut bytes);
+        return bytes;
+    }
     let mut bytes = write(&film);
     for _ in 0..times {
         damage_bytes(random, &headers(&film), &mut bytes);
     }
     bytes
+}
+
+/// Field 0A behind a file that has none, or what stands where it might: alone, cut, twice, too early,
+/// with a wrong length or bad steps; another byte in its place, or behind it.
+fn add_steps(random: &mut Random, headers: &[usize], bytes: &mut Vec<u8>) {
+    let mut field = steps_field(random);
+    match random.below(10) {
+        0 => bytes.push(STEPS),
+        1 => bytes.extend(&field[..1 + random.below(4)]),
+        2 => {
+            bytes.extend(field);
+            bytes.extend(steps_field(random));
+        }
+        3 => {
+            let at = random.pick(headers);
+            bytes.splice(at..at, field);
+        }
+        4 => {
+            let length: u16 = random.pick(&[0, 1, 3, 4, 512]);
+            field[1..3].copy_from_slice(&length.to_be_bytes());
+            bytes.extend(&field[..3 + random.below(3)]);
+        }
+        5 | 6 => {
+            field[3 + random.below(2)] = random.pick(&[0, 5, 6, 128, 255]);
+            bytes.extend(field);
+            bytes.extend((0..random.below(2)).map(|_| random.byte()));
+        }
+        7 => {
+            field[0] = random.pick(&[0, 4, 5, 6, 9, 0x0b, 0x0c, 0x0d, 255]);
+            bytes.extend(&field[..1 + random.below(5)]);
+        }
+        8 => {
+            bytes.extend(field);
+            bytes.push(random.pick(&[0, 5, 0x0b, 0x0c, 0x0d, 255]));
+        }
+        // A good one, of a film whose weights may no longer hold it.
+        _ => bytes.extend(field),
+    }
+}
+
+fn steps_field(random: &mut Random) -> [u8; 5] {
+    let mut step = || films::step(random) as u8;
+    [STEPS, 0, 2, step(), step()]
 }
 
 /// A coefficient file from an accepted film's, with faults of every class of byte.
@@ -42,6 +96,10 @@ pub fn coefficient_file(random: &mut Random, problem: &Problem) -> Vec<u8> {
     let mut bytes = coefficient_film::write(&problem.film());
     let mut headers = vec![0, 5, 12];
     headers.extend(coefficient_film::headers(problem.cells()));
+    if random.chance(15) {
+        // No place of such a file is one for field 0A.
+        add_steps(random, &headers, &mut bytes);
+    }
     for _ in 0..times {
         damage_bytes(random, &headers, &mut bytes);
     }
@@ -60,16 +118,23 @@ fn damage_values(random: &mut Random, film: &mut Film) {
         damage_value(random, &mut gauge);
     }
     film.ceiling = gauge.head.ceiling;
+    film.steps = gauge.given_steps().map(|steps| Steps {
+        // A file has a byte for each.
+        along: steps.along.min(255),
+        across: steps.across.min(255),
+    });
     film.weights = gauge.weights;
     film.thickness = gauge.thicknesses;
     film.wedge = gauge.wedge;
 }
 
 /// Where a file's headers begin.
-fn headers(film: &Film) -> [usize; 5] {
+fn headers(film: &Film) -> Vec<usize> {
     let weights = 15 + 2 * film.cells();
     let wedge = weights + 3 + thickness_count(film.rows, film.columns);
-    [0, 5, 12, weights, wedge]
+    let mut headers = vec![0, 5, 12, weights, wedge];
+    headers.extend(film.steps.map(|_| wedge + 7));
+    headers
 }
 
 fn damage_bytes(random: &mut Random, headers: &[usize], bytes: &mut Vec<u8>) {
@@ -140,29 +205,32 @@ fn set(bytes: &mut [u8], at: usize, byte: u8) {
 
 /// A film's numbers with faults.
 pub fn gauge(random: &mut Random, film: &Film) -> Gauge {
-    let mut gauge = Gauge::from(film);
+    let mut gauge = films::gauge(random, film);
     for _ in 0..1 + random.below(3) {
-        match random.below(10) {
+        match random.below(11) {
             0 => gauge.head.rows = side(random, gauge.head.rows),
             1 => gauge.head.columns = side(random, gauge.head.columns),
             2 => std::mem::swap(&mut gauge.head.rows, &mut gauge.head.columns),
             3 => resize(random, &mut gauge.weights, 1),
             4 => resize(random, &mut gauge.thicknesses, 1),
+            // Given or not, whatever is lent for them.
+            5 => gauge.steps.given = random.pick(&[0, 1, u32::MAX]),
             _ => damage_value(random, &mut gauge),
         }
     }
     gauge
 }
 
-/// Damages ceiling, weights, thicknesses or wedge.
+/// Damages ceiling, weights, thicknesses, wedge or steps.
 fn damage_value(random: &mut Random, gauge: &mut Gauge) {
-    match random.below(6) {
+    match random.below(8) {
         0 => gauge.head.ceiling = bad_ceiling(random),
         1 => put(random, &mut gauge.weights, |_, _| 0),
         2 => put(random, &mut gauge.thicknesses, |random, _| {
             random.pick(&[0, 129, 130, 255])
         }),
         3 => gauge.wedge = bad_wedge(random),
+        4 | 5 => bad_step(random, &mut gauge.steps),
         _ => put(random, &mut gauge.weights, other_weight),
     }
 }
@@ -176,6 +244,25 @@ fn bad_wedge(random: &mut Random) -> i32 {
     let beyond = HIGHEST_WEDGE as i32 + 1;
     let any = random.any_u32() as i32;
     random.pick(&[beyond, -beyond, i32::MAX, i32::MIN, any])
+}
+
+/// A step outside 1..4, given with a good one or with another bad one.
+fn bad_step(random: &mut Random, steps: &mut raw::Steps) {
+    if steps.given == 0 {
+        let (along, across) = (films::step(random), films::step(random));
+        *steps = raw::Steps {
+            given: 1,
+            along,
+            across,
+        };
+    }
+    let any = random.any_u32();
+    let bad = random.pick(&[0, 5, 6, 255, 256, 257, 65_537, u32::MAX, any]);
+    if random.chance(50) {
+        steps.along = bad;
+    } else {
+        steps.across = bad;
+    }
 }
 
 /// A weight that may no longer hold its cell, or its neighbours'.

@@ -1,12 +1,13 @@
 //! Random films that are accepted.
 
+use crate::numbers::Gauge;
 use crate::random::Random;
 use film_oracle::coefficient_film::{convert, CoefficientFilm};
 use film_oracle::coefficients::form;
-use film_oracle::film::{thickness_count, Film};
+use film_oracle::film::{thickness_count, Film, Steps};
 use film_oracle::relax::first_not_dominant;
 use film_oracle::run::{run, Answer, Ordering};
-use film_oracle::weights::least_weights;
+use film_oracle::weights::least_weights_of;
 
 pub const HIGHEST_CEILING: u32 = 16_777_216;
 pub const HIGHEST_WEDGE: i64 = 1_000_000_000;
@@ -31,18 +32,66 @@ pub fn shape(random: &mut Random) -> (usize, usize) {
     }
 }
 
+/// Mostly none, so that most films are as they are without field 0A; else any, equal ones too.
+fn steps(random: &mut Random) -> Option<Steps> {
+    let (along, across) = (step(random), step(random));
+    let steps = match random.below(10) {
+        0..=2 => (1, 1),
+        3 => (4, 1),
+        _ => (along, across),
+    };
+    random.chance(30).then_some(Steps {
+        along: steps.0,
+        across: steps.1,
+    })
+}
+
+/// A step in its range.
+pub fn step(random: &mut Random) -> u32 {
+    random.within(1, 4) as u32
+}
+
+/// A film's numbers as a caller may lend them: any number but 0 says that steps are given, and where
+/// none are, anything stands in their place, good ones too, with which a call would form other links.
+pub fn gauge(random: &mut Random, film: &Film) -> Gauge {
+    let mut gauge = Gauge::from(film);
+    let steps = &mut gauge.steps;
+    if film.steps.is_some() {
+        steps.given = random.pick(&[1, 1, 2, 256, 1 << 31, u32::MAX]);
+    } else if random.chance(50) {
+        let any = random.any_u32();
+        (steps.along, steps.across) = (random.pick(&[any, 2, 3, 4]), step(random));
+    }
+    gauge
+}
+
+/// A film with neither weights nor wedge yet.
+fn bare((rows, columns): (usize, usize), thickness: Vec<u8>, steps: Option<Steps>) -> Film {
+    Film {
+        rows,
+        columns,
+        ceiling: HIGHEST_CEILING,
+        weights: Vec::new(),
+        thickness,
+        wedge: 0,
+        steps,
+    }
+}
+
 /// A random film, accepted.
 pub fn accepted(random: &mut Random) -> Film {
     let (rows, columns) = shape(random);
+    let steps = steps(random);
     for _ in 0..4 {
-        let thickness = thicknesses(random, rows, columns);
-        if let Some(weights) = held_weights(rows, columns, &thickness) {
-            return finished(random, (rows, columns), thickness, weights);
+        let film = bare((rows, columns), thicknesses(random, rows, columns), steps);
+        if let Some(weights) = held_weights(&film) {
+            return finished(random, Film { weights, ..film });
         }
     }
     let thickness = vec![random.within(1, 128) as u8; thickness_count(rows, columns)];
-    let weights = held_weights(rows, columns, &thickness).expect("an even film is held quickly");
-    finished(random, (rows, columns), thickness, weights)
+    let film = bare((rows, columns), thickness, steps);
+    let weights = held_weights(&film).expect("an even film is held quickly");
+    finished(random, Film { weights, ..film })
 }
 
 /// A film made to be slow: a thick pad inside two thin courses, hardly anything flows out, and
@@ -58,31 +107,16 @@ pub fn slow(random: &mut Random) -> Option<Film> {
             row[2..columns].fill(pad);
         }
     }
+    let film = bare((rows, columns), thickness, steps(random));
     Some(Film {
-        rows,
-        columns,
-        ceiling: HIGHEST_CEILING,
-        weights: least_weights(rows, columns, &thickness)?,
-        thickness,
+        weights: least_weights_of(form(&film))?,
         wedge: random.within(10_000_000, HIGHEST_WEDGE) as i32,
+        ..film
     })
 }
 
 /// Gives a film its wedge, its ceiling and other weights.
-fn finished(
-    random: &mut Random,
-    (rows, columns): (usize, usize),
-    thickness: Vec<u8>,
-    weights: Vec<u16>,
-) -> Film {
-    let mut film = Film {
-        rows,
-        columns,
-        ceiling: HIGHEST_CEILING,
-        weights,
-        thickness,
-        wedge: 0,
-    };
+fn finished(random: &mut Random, mut film: Film) -> Film {
     film.wedge = wedge(random, &film);
     film.ceiling = ceiling(random, &film);
     vary_weights(random, &mut film);
@@ -113,23 +147,17 @@ fn thicknesses(random: &mut Random, rows: usize, columns: usize) -> Vec<u8> {
 }
 
 /// The least weights that hold a film, where they are found soon.
-fn held_weights(rows: usize, columns: usize, thickness: &[u8]) -> Option<Vec<u16>> {
-    let mut formed = form(&Film {
-        rows,
-        columns,
-        ceiling: 1,
-        weights: Vec::new(),
-        thickness: thickness.to_vec(),
-        wedge: 0,
-    });
-    formed.sources = vec![-1; rows * columns];
-    let mut field = vec![0; rows * columns];
+fn held_weights(film: &Film) -> Option<Vec<u16>> {
+    let cells = film.cells();
+    let mut formed = form(film);
+    formed.sources = vec![-1; cells];
+    let mut field = vec![0; cells];
     let outcome = run(
         formed.system(),
         u16::MAX.into(),
         &[],
         &mut field,
-        20_000 + 300 * (rows * columns) as u32,
+        20_000 + 300 * cells as u32,
         Ordering::Forward,
         false,
     );

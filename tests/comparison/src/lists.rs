@@ -34,7 +34,7 @@ fn accepted_film(random: &mut Random, tally: &mut Tally) -> Compared {
     let converted = convert(&film);
     let files = [write(&film), coefficient_film::write(&converted)];
     let mut trial = Trial::new(files[0].clone(), tally);
-    gauged(&mut trial, Gauge::from(&film))?;
+    gauged(&mut trial, films::gauge(random, &film))?;
     for file in &files {
         read(&mut trial, file)?;
     }
@@ -142,7 +142,7 @@ fn gauged(trial: &mut Trial, gauge: Gauge) -> Compared {
         gauge.head.rows.min(99) as usize,
         gauge.head.columns.min(99) as usize,
     );
-    let length = file_length(rows, columns);
+    let length = file_length(rows, columns, gauge.given_steps().is_some());
     trial.step(Step::Write(gauge.clone(), length))?;
     trial.step(Step::Form(gauge.clone(), [rows * columns; 4]))?;
     let length = coefficient_film::file_length(rows, columns);
@@ -161,7 +161,7 @@ fn meshed(trial: &mut Trial, problem: Problem) -> Compared {
 /// Every call on a gauged film's numbers, with lent slices of wrong lengths.
 fn wrong_lengths(random: &mut Random, trial: &mut Trial, film: &Film) -> Compared {
     let gauge = if random.chance(70) {
-        Gauge::from(film)
+        films::gauge(random, film)
     } else {
         damage::gauge(random, film)
     };
@@ -169,7 +169,11 @@ fn wrong_lengths(random: &mut Random, trial: &mut Trial, film: &Film) -> Compare
     let which = random.below(4);
     lengths[which] = damage::length(random, film.cells());
     trial.step(Step::Form(gauge.clone(), lengths))?;
-    let length = damage::length(random, file_length(film.rows, film.columns));
+    let given = gauge.given_steps().is_some();
+    let length = match random.below(4) {
+        0 => file_length(film.rows, film.columns, !given),
+        _ => damage::length(random, file_length(film.rows, film.columns, given)),
+    };
     trial.step(Step::Write(gauge.clone(), length))?;
     let length = coefficient_film::file_length(film.rows, film.columns);
     let length = damage::length(random, length);

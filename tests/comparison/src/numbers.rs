@@ -5,7 +5,7 @@ use film::{raw, Head};
 use film_oracle::calls::Problem as OracleProblem;
 use film_oracle::coefficient_film::{convert, CoefficientFilm};
 use film_oracle::coefficients::{Coefficients, System};
-use film_oracle::film::{Film, Numbers as OracleNumbers};
+use film_oracle::film::{Film, Numbers as OracleNumbers, Steps};
 use film_oracle::Whole;
 
 /// The numbers of a film file, or what a caller gives for them.
@@ -15,6 +15,7 @@ pub struct Gauge {
     pub weights: Vec<u16>,
     pub thicknesses: Vec<u8>,
     pub wedge: i32,
+    pub steps: raw::Steps,
 }
 
 impl From<&Film> for Gauge {
@@ -24,11 +25,22 @@ impl From<&Film> for Gauge {
             weights: film.weights.clone(),
             thicknesses: film.thickness.clone(),
             wedge: film.wedge,
+            steps: steps(film.steps, UNREAD_STEPS),
         }
     }
 }
 
 impl Gauge {
+    /// Steps that are given; what is lent for others is not looked at.
+    pub fn given_steps(&self) -> Option<Steps> {
+        let raw::Steps {
+            given,
+            along,
+            across,
+        } = self.steps;
+        (given != 0).then_some(Steps { along, across })
+    }
+
     /// As the oracle takes them.
     pub fn oracle(&self) -> OracleNumbers<'_> {
         OracleNumbers {
@@ -38,7 +50,27 @@ impl Gauge {
             weights: &self.weights,
             thickness: &self.thicknesses,
             wedge: self.wedge,
+            steps: self.given_steps(),
         }
+    }
+}
+
+/// What is lent where a film has no steps: outside 1..4, so that a call which looks at them shows.
+const UNREAD_STEPS: raw::Steps = raw::Steps {
+    given: 0,
+    along: 0,
+    across: 0xdead_beef,
+};
+
+/// The library's steps: those of the oracle, or of what is lent the mark alone that there are none.
+pub fn steps(steps: Option<Steps>, lent: raw::Steps) -> raw::Steps {
+    match steps {
+        Some(Steps { along, across }) => raw::Steps {
+            given: 1,
+            along,
+            across,
+        },
+        None => raw::Steps { given: 0, ..lent },
     }
 }
 

@@ -5,8 +5,8 @@ use crate::numbers::{head, Problem};
 use crate::random::Random;
 use film_oracle::report::REPORT_BUDGET;
 
-pub const HIGHEST_LINK: i64 = 1 << 24;
-pub const HIGHEST_DIAGONAL: i64 = 1 << 27;
+pub const HIGHEST_LINK: i64 = 1 << 26;
+pub const HIGHEST_DIAGONAL: i64 = 1 << 28;
 pub const HIGHEST_SOURCE: i64 = 1 << 50;
 /// The greatest real pressure that an estimate takes.
 const HIGHEST_ESTIMATE: i64 = 1 << 25;

@@ -66,7 +66,7 @@ impl Random {
 
     /// Any number of 32 bits: an edge, one beside it, or any at all.
     pub fn any_u32(&mut self) -> u32 {
-        let edge = self.pick(&[0, 1, 1 << 15, 1 << 16, 1 << 24, 1 << 27, 1 << 31, u32::MAX]);
+        let edge = self.pick(&[0, 1 << 15, 1 << 16, 1 << 24, 1 << 26, 1 << 28, 1 << 31]);
         match self.below(4) {
             0 => edge,
             1 => edge.wrapping_add(1),

@@ -4,7 +4,7 @@
 use crate::coefficient_calls;
 use crate::fields::Sweep;
 use crate::lent::{Differences, Lent};
-use crate::numbers::{head, Gauge, Problem, Sides};
+use crate::numbers::{head, steps, Gauge, Problem, Sides};
 use crate::tally::{answer, Tally};
 use film::raw::{self, Formed, Ran};
 use film::Head;
@@ -22,6 +22,11 @@ pub const UNSET_HEAD: Head = Head {
     rows: UNSET,
     columns: UNSET,
     ceiling: UNSET,
+};
+pub const UNSET_STEPS: raw::Steps = raw::Steps {
+    given: UNSET,
+    along: UNSET - 1,
+    across: UNSET - 2,
 };
 const UNSET_SLACK: i64 = -0x5ead_beef_5ead_beef;
 pub const UNSET_PLACE: usize = 0x0bad_cafe_0bad_cafe;
@@ -344,9 +349,13 @@ fn read(
     let lent_file = Lent::new(file, 1);
     let wanted = read_into(file, &mut weights, &mut thicknesses);
     let (mut told, mut told_wedge, mut place) = (UNSET_HEAD, UNSET as i32, UNSET_PLACE);
-    let (wanted_head, wedge) = match wanted {
-        Ok((rows, columns, ceiling, wedge)) => (head(rows, columns, ceiling), wedge),
-        Err(_) => (told, told_wedge),
+    let mut told_steps = Lent::new(&[UNSET_STEPS], raw::Steps::default());
+    let (wanted_head, wedge, wanted_steps) = match wanted {
+        Ok((rows, columns, ceiling, wedge, found)) => {
+            let found = steps(found, UNSET_STEPS);
+            (head(rows, columns, ceiling), wedge, found)
+        }
+        Err(_) => (told, told_wedge, UNSET_STEPS),
     };
     let number = raw::read(
         lent_file.slice(),
@@ -354,15 +363,21 @@ fn read(
         lent_thicknesses.slice_mut(),
         &mut told,
         &mut told_wedge,
+        &mut told_steps.slice_mut()[0],
         &mut place,
     );
     refusals(&wanted, number, place, differences);
     differences.same("head", wanted_head, told);
     differences.same("wedge", wedge, told_wedge);
+    differences.lent("steps", &[wanted_steps], &told_steps);
     differences.lent("weights", &weights, &lent_weights);
     differences.lent("thicknesses", &thicknesses, &lent_thicknesses);
     differences.lent("file", file, &lent_file);
-    tally.add("read", answer(number, "accepted"));
+    let word = match wanted_steps.given {
+        1 => "with steps",
+        _ => "accepted",
+    };
+    tally.add("read", answer(number, word));
 }
 
 /// Lends a film's numbers to a call, and looks whether they are unchanged.
@@ -371,7 +386,7 @@ pub fn with_gauge(
     differences: &mut Differences,
     call: impl FnOnce(raw::Gauge) -> u32,
 ) -> u32 {
-    let head = gauge.head;
+    let (head, steps) = (gauge.head, gauge.steps);
     let weights = Lent::new(&gauge.weights, 1);
     let thicknesses = Lent::new(&gauge.thicknesses, 1);
     let number = call(raw::Gauge {
@@ -379,8 +394,10 @@ pub fn with_gauge(
         weights: weights.slice(),
         thicknesses: thicknesses.slice(),
         wedge: gauge.wedge,
+        steps: &steps,
     });
     differences.same("head", gauge.head, head);
+    differences.same("steps", gauge.steps, steps);
     differences.lent("weights", &gauge.weights, &weights);
     differences.lent("thicknesses", &gauge.thicknesses, &thicknesses);
     number

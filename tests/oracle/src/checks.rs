@@ -8,9 +8,12 @@ use crate::{refuse, Refusal, Whole};
 
 const LARGEST_SIDE: Whole = 32;
 const LARGEST_CEILING: Whole = 16_777_216;
-const LARGEST_DIAGONAL: Whole = 134_217_728;
-const LARGEST_LINK: Whole = 16_777_216;
-const LARGEST_SOURCE: Whole = 1_125_899_906_842_624;
+
+/// The limits of coefficients, for every call and for coefficient files (document 02, W2): a link is
+/// at most the cube of 256 taken four times, and a diagonal has four links.
+pub const LARGEST_DIAGONAL: Whole = 268_435_456;
+pub const LARGEST_LINK: Whole = 67_108_864;
+pub const LARGEST_SOURCE: Whole = 1_125_899_906_842_624;
 
 /// What a call was given; an input that the call doesn't have is None.
 #[derive(Clone, Copy, Default)]

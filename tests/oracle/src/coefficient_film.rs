@@ -5,9 +5,10 @@
 use crate::checks::check_limits;
 use crate::coefficients::{form, Coefficients, System};
 use crate::film::{
-    after_weights, body, check_dominance, put_field, read_opening, write_opening, Film,
+    after_weights, body, check_dominance, optional_bodies, put_field, read_opening, write_opening,
+    Film,
 };
-use crate::{refuse, Refusal, Whole};
+use crate::{Refusal, Whole};
 
 /// Length of each of the five buffers that a caller lends to the reader.
 pub const COEFFICIENT_BUFFER: usize = 1_024;
@@ -56,7 +57,7 @@ pub fn headers(cells: usize) -> [usize; 4] {
 
 /// Reads a coefficient file into numbers of its own. Each field is tested as in a film file, but
 /// fields 06 to 09 have no test of their values: their limits come after the bytes that follow, and
-/// dominance comes last.
+/// dominance comes last. No optional field is permitted.
 pub fn read(bytes: &[u8]) -> Result<CoefficientFilm, Refusal> {
     let opening = read_opening(bytes)?;
     let (rows, columns) = (opening.rows, opening.columns);
@@ -67,10 +68,7 @@ pub fn read(bytes: &[u8]) -> Result<CoefficientFilm, Refusal> {
     let ups = unsigned(body(bytes, at_ups, 0x08, 4 * cells)?);
     let sources = signed(body(bytes, at_sources, 0x09, 8 * cells)?);
 
-    let end = file_length(rows, columns);
-    if bytes.len() > end {
-        return refuse(2, end);
-    }
+    let [] = optional_bodies(bytes, file_length(rows, columns), [])?;
     let film = CoefficientFilm {
         ceiling: opening.ceiling,
         weights: opening.weights,
@@ -137,7 +135,8 @@ fn signed_bytes(numbers: &[Whole]) -> Vec<u8> {
         .collect()
 }
 
-/// The coefficient film of the same problem as an accepted gauged film.
+/// The coefficient film of the same problem as an accepted gauged film. Its links have the grid steps
+/// in them, and it has no field for them.
 pub fn convert(film: &Film) -> CoefficientFilm {
     CoefficientFilm {
         ceiling: film.ceiling,

@@ -1,15 +1,16 @@
-//! The test vectors of coefficient films (document 02, W1), after those of gauged ones.
+//! The test vectors of coefficient films (document 02, W1), after those of gauged ones, and those that
+//! W2 adds: field 0A where it is not permitted, and the limits that are wider since then.
 
+use crate::checks::{LARGEST_DIAGONAL, LARGEST_LINK, LARGEST_SOURCE};
 use crate::coefficient_film::{convert, file_length, write, CoefficientFilm};
 use crate::film;
 use crate::samples::{film_f, journal, meshed, over, stopped, tilted_pad, Faces, HIGHEST};
 use crate::vectors::{patch, Generator, List, Patch};
 use crate::Whole;
 
-// The limits of the numeric calls, which a coefficient file can reach.
-const LARGEST_DIAGONAL: Whole = 134_217_728;
-const LARGEST_LINK: Whole = 16_777_216;
-const LARGEST_SOURCE: Whole = 1_125_899_906_842_624;
+// The limits before W2. The films that were made at them stay as they are.
+const FORMER_DIAGONAL: Whole = 134_217_728;
+const FORMER_LINK: Whole = 16_777_216;
 
 // Where the fields of film F's coefficient file lie: header, then the numbers of its two cells.
 const DIAGONALS: usize = 19;
@@ -33,8 +34,15 @@ pub(crate) fn add(list: &mut List) {
     long_inputs(list);
 }
 
+/// Adds those of W2, in order.
+pub(crate) fn add_beside_steps(list: &mut List) {
+    steps_not_permitted(list);
+    wider_limits(list);
+    all_at_wider_limits(list);
+}
+
 impl List {
-    fn coefficients(&mut self, name: &str, film: &CoefficientFilm) {
+    pub(crate) fn coefficients(&mut self, name: &str, film: &CoefficientFilm) {
         self.add(name, write(film));
     }
 
@@ -72,7 +80,7 @@ fn one_cell(list: &mut List) {
     };
     list.coefficients("coefficient-1x1-lowest", &cell(1, -LARGEST_SOURCE));
     list.coefficients("coefficient-1x1-highest", &cell(1, LARGEST_SOURCE));
-    let most = cell(LARGEST_DIAGONAL, -LARGEST_SOURCE);
+    let most = cell(FORMER_DIAGONAL, -LARGEST_SOURCE);
     list.coefficients("coefficient-1x1-limits", &most);
 }
 
@@ -140,17 +148,17 @@ fn rough(generator: &mut Generator, shape: (usize, usize)) -> CoefficientFilm {
     })
 }
 
-/// Every number at its limit. All sources lift, but those of the cells that `drained` names. With
+/// Every number at its former limit. All sources lift, but those of the cells that `drained` names. With
 /// all links, pressures rise towards 2⁵⁰ / (2²⁷ − 2²⁶), which is the highest ceiling: none is Over.
 fn at_limits(shape: (usize, usize), drained: impl Fn(usize) -> bool) -> CoefficientFilm {
     let mut film = meshed(shape, HIGHEST, |_, _| Faces {
-        loss: LARGEST_LINK,
-        right: LARGEST_LINK,
-        up: LARGEST_LINK,
+        loss: FORMER_LINK,
+        right: FORMER_LINK,
+        up: FORMER_LINK,
         source: -LARGEST_SOURCE,
     });
     film.weights = vec![u16::MAX; film.cells()];
-    film.coefficients.diagonals = vec![LARGEST_DIAGONAL; film.cells()];
+    film.coefficients.diagonals = vec![FORMER_DIAGONAL; film.cells()];
     for cell in (0..film.cells()).filter(|&cell| drained(cell)) {
         film.coefficients.sources[cell] = LARGEST_SOURCE;
     }
@@ -163,7 +171,7 @@ fn climbing(list: &mut List) {
     let pair = |ceiling, reach: Whole| {
         meshed((1, 2), ceiling, |_, _| Faces {
             loss: 1,
-            right: LARGEST_LINK - 1,
+            right: FORMER_LINK - 1,
             up: 0,
             source: -reach,
         })
@@ -242,10 +250,11 @@ fn values(list: &mut List) {
     list.damaged("coefficient-held-by-1", &[(RIGHTS + 3, &[0, 0, 0, 50])]);
 }
 
-/// Refusal 14: each list just beyond its limits or far beyond them.
+/// Refusal 14: each list beyond its limits. Two numbers are just beyond the former ones: the diagonal
+/// fits since W2, and the link fits but no weights of 1 hold it.
 fn limits(list: &mut List) {
     let beyond = |number: Whole| (number as u32).to_be_bytes();
-    let (diagonal, link) = (beyond(LARGEST_DIAGONAL + 1), beyond(LARGEST_LINK + 1));
+    let (diagonal, link) = (beyond(FORMER_DIAGONAL + 1), beyond(FORMER_LINK + 1));
     let lowest = i64::MIN.to_be_bytes();
     let faults: [(&str, Patch); 5] = [
         ("coefficient-diagonal-0", (DIAGONALS + 7, &[0; 4])),
@@ -330,4 +339,99 @@ fn long_inputs(list: &mut List) {
     largest.coefficients.sources[1_023] = LARGEST_SOURCE + 1;
     let bytes = write(&largest);
     list.add("coefficient-bytes-40000", lengthened(bytes, 40_000));
+}
+
+/// Field 0A in a coefficient film is stray wherever it stands: behind field 09 by its tag alone, and
+/// before that where a header is there.
+fn steps_not_permitted(list: &mut List) {
+    const STEPS: &[u8] = &[0x0a, 0x00, 0x02, 0x01, 0x01];
+    let bytes = whole();
+    let put = |at: usize, field: &[u8]| [&bytes[..at], field, &bytes[at..]].concat();
+    for (name, at) in [
+        ("coefficient-0a-after-03", DIAGONALS),
+        ("coefficient-0a-after-06", RIGHTS),
+        ("coefficient-0a-after-07", UPS),
+        ("coefficient-0a-after-08", SOURCES),
+    ] {
+        list.add(name, put(at, STEPS));
+    }
+    list.add("coefficient-0a-alone", put(END, &[0x0a]));
+    list.add("coefficient-0a-cut", put(END, &STEPS[..4]));
+    list.add("coefficient-0a-steps-0", put(END, &[0x0a, 0, 2, 0, 0]));
+    list.add("coefficient-0a-twice", put(END, &[STEPS, STEPS].concat()));
+    let without_sources = &bytes[..SOURCES];
+    list.add("coefficient-0a-for-09", [without_sources, STEPS].concat());
+    let alone = [without_sources, &STEPS[..1]].concat();
+    list.add("coefficient-0a-for-09-alone", alone);
+    // What follows is met before the limits and before dominance.
+    for (name, fault) in [
+        ("coefficient-beyond-0a", (DIAGONALS + 3, &[0; 4][..])),
+        ("coefficient-unheld-0a", (15, &[0xff; 2][..])),
+    ] {
+        list.add(name, [&patch(whole(), &[fault])[..], STEPS].concat());
+    }
+}
+
+/// Diagonals and links at the limits of W2, and one more.
+fn wider_limits(list: &mut List) {
+    let cell = |diagonal| {
+        meshed((1, 1), HIGHEST, |_, _| Faces {
+            loss: diagonal,
+            right: 0,
+            up: 0,
+            source: -LARGEST_SOURCE,
+        })
+    };
+    list.coefficients("wider-1x1-limit", &cell(LARGEST_DIAGONAL));
+    list.coefficients("wider-1x1-above", &cell(LARGEST_DIAGONAL + 1));
+    // Two cells, beside each other or one above the other, with a loss that makes both diagonals largest.
+    let pair = |shape, link| {
+        meshed(shape, HIGHEST, |_, _| Faces {
+            loss: LARGEST_DIAGONAL - link,
+            right: link,
+            up: link,
+            source: -1_000_000_000_000,
+        })
+    };
+    for (name, shape) in [("right", (1, 2)), ("up", (2, 1))] {
+        let named = |what: &str| format!("wider-{name}-{what}");
+        list.coefficients(&named("limit"), &pair(shape, LARGEST_LINK));
+        list.coefficients(&named("above"), &pair(shape, LARGEST_LINK + 1));
+        list.coefficients(&named("above-former"), &pair(shape, FORMER_LINK + 1));
+    }
+    let mut film = pair((1, 2), LARGEST_LINK);
+    film.coefficients.diagonals[1] += 1;
+    list.coefficients("wider-diagonal-above-second", &film);
+    // Beside film F's diagonals the largest link keeps its limit, but no weights of 1 hold it.
+    let link = (LARGEST_LINK as u32).to_be_bytes();
+    list.damaged("wider-right-unheld", &[(RIGHTS + 3, &link)]);
+    let beyond = (LARGEST_LINK as u32 + 1).to_be_bytes();
+    list.damaged("wider-right-beyond-unheld", &[(RIGHTS + 3, &beyond)]);
+}
+
+/// All links and diagonals at the limits of W2: a diagonal is then the sum of four links, and only the
+/// rim loses. Equal weights hold no inner cell; the least ones do.
+fn all_at_wider_limits(list: &mut List) {
+    let film = |shape: (usize, usize), source: Whole| {
+        meshed(shape, HIGHEST, |r, c| {
+            let rim = [r == 1, r == shape.0, c == 1, c == shape.1];
+            Faces {
+                loss: LARGEST_LINK * rim.iter().filter(|&&out| out).count() as Whole,
+                right: LARGEST_LINK,
+                up: LARGEST_LINK,
+                source,
+            }
+        })
+    };
+    list.coefficients("wider-limits-8x8", &film((8, 8), -LARGEST_SOURCE / 64));
+    list.coefficients("wider-limits-1x32", &film((1, 32), -LARGEST_SOURCE / 2));
+    list.coefficients("wider-limits-over", &film((32, 32), -LARGEST_SOURCE));
+    let mut drained = film((3, 3), -LARGEST_SOURCE);
+    for cell in [1, 3, 5, 7] {
+        drained.coefficients.sources[cell] = LARGEST_SOURCE;
+    }
+    list.coefficients("wider-limits-3x3", &drained);
+    let mut equal = film((3, 3), -1);
+    equal.weights = vec![u16::MAX; 9];
+    list.coefficients("wider-limits-unheld", &equal);
 }

@@ -1,5 +1,5 @@
-//! From thicknesses and wedge to the coefficients of the film equation (document 01,
-//! "Coefficients").
+//! From thicknesses, wedge and grid steps to the coefficients of the film equation (document 01,
+//! "Coefficients"; document 02, W2).
 
 use crate::film::{check_numbers, Film, Numbers};
 use crate::{Refusal, Whole};
@@ -47,8 +47,11 @@ fn link(one: Whole, other: Whole) -> Whole {
     sum * sum * sum
 }
 
-/// Forms the coefficients of an accepted film.
+/// Forms the coefficients of an accepted film. Links within a row are taken `along` times, links
+/// between rows `across` times, those to the ring too; the source has neither factor.
 pub fn form(film: &Film) -> Coefficients {
+    let steps = film.factors();
+    let (along, across) = (Whole::from(steps.along), Whole::from(steps.across));
     let mut formed = Coefficients {
         rows: film.rows,
         columns: film.columns,
@@ -64,10 +67,9 @@ pub fn form(film: &Film) -> Coefficients {
             let after = film.thickness_at(r, c + 1);
             let below = film.thickness_at(r - 1, c);
             let above = film.thickness_at(r + 1, c);
-            let (right, up) = (link(here, after), link(here, above));
-            formed
-                .diagonals
-                .push(link(here, before) + right + link(here, below) + up);
+            let (left, right) = (along * link(here, before), along * link(here, after));
+            let (down, up) = (across * link(here, below), across * link(here, above));
+            formed.diagonals.push(left + right + down + up);
             // Faces to the ring count in the diagonal only: ring pressure is 0.
             formed.rights.push(if c < film.columns { right } else { 0 });
             formed.ups.push(if r < film.rows { up } else { 0 });

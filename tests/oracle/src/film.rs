@@ -1,5 +1,6 @@
 //! The film file: its numbers, its reader and its writer (document 01, "The film file" and
-//! "Refusals"). Fields 01 to 03 and the tests of single numbers are those of a coefficient film too.
+//! "Refusals"; document 02, W2). Fields 01 to 03, the walk over the optional fields and the tests of
+//! single numbers are those of a coefficient film too.
 
 use crate::coefficients::{form, System};
 use crate::relax::first_not_dominant;
@@ -14,12 +15,24 @@ const LARGEST_SIDE: Whole = 32;
 const LARGEST_CEILING: Whole = 16_777_216;
 const LARGEST_THICKNESS: u8 = 128;
 const LARGEST_WEDGE: i32 = 1_000_000_000;
+const LARGEST_STEP: u32 = 4;
+
+/// Tag of the grid steps, and the length of their body.
+const STEPS_TAG: u8 = 0x0a;
+const STEPS_LENGTH: usize = 2;
 
 // Where the numbers of a file lie.
 const ROWS_AT: usize = 3;
 const COLUMNS_AT: usize = 4;
 const CEILING_AT: usize = 8;
 const WEIGHTS_AT: usize = 15;
+
+/// Grid steps (document 02, W2), as factors: of the links within a row, and of those between rows.
+#[derive(Clone, Copy, Debug, PartialEq, Eq)]
+pub struct Steps {
+    pub along: u32,
+    pub across: u32,
+}
 
 /// The numbers of a film file.
 #[derive(Clone, Debug, PartialEq, Eq)]
@@ -32,6 +45,8 @@ pub struct Film {
     /// Rows 0 to R + 1, and in each of them columns 0 to C + 1: the boundary ring is included.
     pub thickness: Vec<u8>,
     pub wedge: i32,
+    /// None where field 0A was not there: steps 1 1 that were given are another file.
+    pub steps: Option<Steps>,
 }
 
 impl Film {
@@ -44,6 +59,14 @@ impl Film {
     pub fn thickness_at(&self, row: usize, column: usize) -> Whole {
         Whole::from(self.thickness[row * (self.columns + 2) + column])
     }
+
+    /// The factors of the links: a film without the field has 1 and 1.
+    pub fn factors(&self) -> Steps {
+        self.steps.unwrap_or(Steps {
+            along: 1,
+            across: 1,
+        })
+    }
 }
 
 /// Number of thicknesses, the ring included.
@@ -51,9 +74,10 @@ pub fn thickness_count(rows: usize, columns: usize) -> usize {
     (rows + 2) * (columns + 2)
 }
 
-/// Length of the file of a film with `rows` and `columns`.
-pub fn file_length(rows: usize, columns: usize) -> usize {
-    25 + 2 * rows * columns + thickness_count(rows, columns)
+/// Length of the file of a film with `rows` and `columns`, with or without field 0A.
+pub fn file_length(rows: usize, columns: usize, steps: bool) -> usize {
+    let required = 25 + 2 * rows * columns + thickness_count(rows, columns);
+    required + if steps { 3 + STEPS_LENGTH } else { 0 }
 }
 
 fn thickness_offset(cells: usize) -> usize {
@@ -62,6 +86,10 @@ fn thickness_offset(cells: usize) -> usize {
 
 fn wedge_offset(rows: usize, columns: usize) -> usize {
     21 + 2 * rows * columns + thickness_count(rows, columns)
+}
+
+fn steps_offset(rows: usize, columns: usize) -> usize {
+    28 + 2 * rows * columns + thickness_count(rows, columns)
 }
 
 /// The numbers of fields 01, 02 and 03, with which a file of either kind begins.
@@ -100,7 +128,8 @@ pub(crate) fn read_opening(bytes: &[u8]) -> Result<Opening, Refusal> {
 }
 
 /// Reads a film file into numbers of its own. The tests come field by field: header, tag, length,
-/// presence of the body, values; then bytes after field 05; then dominance.
+/// presence of the body, values; then the optional field in its own order, and bytes after it; then
+/// dominance.
 pub fn read(bytes: &[u8]) -> Result<Film, Refusal> {
     let Opening {
         rows,
@@ -118,10 +147,12 @@ pub fn read(bytes: &[u8]) -> Result<Film, Refusal> {
     let wedge = be_u32(body(bytes, wedge_header, 0x05, 4)?) as i32;
     check_wedge(wedge, rows, columns)?;
 
-    let end = file_length(rows, columns);
-    if bytes.len() > end {
-        return refuse(2, end);
-    }
+    let permitted = [Optional {
+        tag: STEPS_TAG,
+        length: STEPS_LENGTH,
+        check: &|body, at| check_steps(steps_in(body), at),
+    }];
+    let [steps] = optional_bodies(bytes, file_length(rows, columns, false), permitted)?;
     let film = Film {
         rows,
         columns,
@@ -129,25 +160,32 @@ pub fn read(bytes: &[u8]) -> Result<Film, Refusal> {
         weights,
         thickness,
         wedge,
+        steps: steps.map(steps_in),
     };
     check_dominance(form(&film).system(), &film.weights)?;
     Ok(film)
 }
 
-/// The reading call: fills the two lent buffers and hands back rows, columns, ceiling and wedge.
-/// Wrong buffers come first; places beyond those used keep their contents.
+/// The reading call: fills the two lent buffers and hands back rows, columns, ceiling, wedge and
+/// steps. Wrong buffers come first; places beyond those used keep their contents.
 pub fn read_into(
     bytes: &[u8],
     weights: &mut [u16],
     thickness: &mut [u8],
-) -> Result<(usize, usize, u32, i32), Refusal> {
+) -> Result<(usize, usize, u32, i32, Option<Steps>), Refusal> {
     if weights.len() != WEIGHT_BUFFER || thickness.len() != THICKNESS_BUFFER {
         return refuse(10, 0);
     }
     let film = read(bytes)?;
     weights[..film.weights.len()].copy_from_slice(&film.weights);
     thickness[..film.thickness.len()].copy_from_slice(&film.thickness);
-    Ok((film.rows, film.columns, film.ceiling, film.wedge))
+    Ok((
+        film.rows,
+        film.columns,
+        film.ceiling,
+        film.wedge,
+        film.steps,
+    ))
 }
 
 /// One field: the header of three bytes, its tag, its length, then its body.
@@ -167,6 +205,48 @@ pub(crate) fn body(bytes: &[u8], at: usize, tag: u8, length: usize) -> Result<&[
     Ok(&bytes[at + 3..at + 3 + length])
 }
 
+/// Tests the values of a body that begins at an offset.
+type ValueTest<'a> = &'a dyn Fn(&[u8], usize) -> Result<(), Refusal>;
+
+/// An optional field that a kind of film permits: its tag, the one length of its body, and the test of
+/// its values.
+pub(crate) struct Optional<'a> {
+    pub tag: u8,
+    pub length: usize,
+    pub check: ValueTest<'a>,
+}
+
+/// The bodies of the optional fields, which begin at `at`, behind the last required field; None for
+/// one that is not there. The tag is looked at before the header, so that a byte that is no permitted
+/// tag is stray even where it stands alone. The fields stand in the order of `permitted`, each at most
+/// once: an earlier or repeated tag is stray.
+pub(crate) fn optional_bodies<'a, const COUNT: usize>(
+    bytes: &'a [u8],
+    mut at: usize,
+    permitted: [Optional; COUNT],
+) -> Result<[Option<&'a [u8]>; COUNT], Refusal> {
+    let mut bodies = [None; COUNT];
+    for (found, field) in bodies.iter_mut().zip(permitted) {
+        if bytes.get(at) == Some(&field.tag) {
+            let body = body(bytes, at, field.tag, field.length)?;
+            (field.check)(body, at + 3)?;
+            *found = Some(body);
+            at += 3 + field.length;
+        }
+    }
+    if bytes.len() > at {
+        return refuse(2, at);
+    }
+    Ok(bodies)
+}
+
+fn steps_in(body: &[u8]) -> Steps {
+    Steps {
+        along: body[0].into(),
+        across: body[1].into(),
+    }
+}
+
 fn be_u32(body: &[u8]) -> u32 {
     u32::from_be_bytes([body[0], body[1], body[2], body[3]])
 }
@@ -180,6 +260,7 @@ pub struct Numbers<'a> {
     pub weights: &'a [u16],
     pub thickness: &'a [u8],
     pub wedge: i32,
+    pub steps: Option<Steps>,
 }
 
 impl<'a> From<&'a Film> for Numbers<'a> {
@@ -191,13 +272,14 @@ impl<'a> From<&'a Film> for Numbers<'a> {
             weights: &film.weights,
             thickness: &film.thickness,
             wedge: film.wedge,
+            steps: film.steps,
         }
     }
 }
 
-/// The tests of the writer and of the forming call: 4, 10, 5, 6, 7, 8, 9, at the offsets that the
-/// numbers would get in a file. `lent_fits` says, for a good shape, whether the slices that the
-/// call fills have the right lengths.
+/// The tests of the writer, the forming call and the converter: 4, 10, 5, 6, 7, 8, 15, 9, at the
+/// offsets that the numbers would get in a file; of steps that are not there nothing is tested.
+/// `lent_fits` says, for a good shape, whether the slices that the call fills have the right lengths.
 pub fn check_numbers(
     given: Numbers,
     lent_fits: impl Fn(usize, usize) -> bool,
@@ -215,6 +297,9 @@ pub fn check_numbers(
     check_weights(given.weights)?;
     check_thickness(given.thickness, cells)?;
     check_wedge(given.wedge, rows, columns)?;
+    if let Some(steps) = given.steps {
+        check_steps(steps, steps_offset(rows, columns))?;
+    }
     let film = Film {
         rows,
         columns,
@@ -222,6 +307,7 @@ pub fn check_numbers(
         weights: given.weights.to_vec(),
         thickness: given.thickness.to_vec(),
         wedge: given.wedge,
+        steps: given.steps,
     };
     check_dominance(form(&film).system(), &film.weights)?;
     Ok(film)
@@ -229,17 +315,24 @@ pub fn check_numbers(
 
 /// The writing call: fills a lent slice that has exactly the file's length.
 pub fn write_into(given: Numbers, out: &mut [u8]) -> Result<(), Refusal> {
-    let length = out.len();
-    let film = check_numbers(given, |rows, columns| length == file_length(rows, columns))?;
+    let (length, steps) = (out.len(), given.steps.is_some());
+    let film = check_numbers(given, |rows, columns| {
+        length == file_length(rows, columns, steps)
+    })?;
     out.copy_from_slice(&write(&film));
     Ok(())
 }
 
-/// The bytes of a film file, with no test at all: test vectors need refused files too.
+/// The bytes of a film file, with no test at all: test vectors need refused files too. A number must
+/// have room in its field.
 pub fn write(film: &Film) -> Vec<u8> {
     let mut bytes = write_opening((film.rows, film.columns), film.ceiling, &film.weights);
     put_field(&mut bytes, 0x04, &film.thickness);
     put_field(&mut bytes, 0x05, &film.wedge.to_be_bytes());
+    if let Some(steps) = film.steps {
+        let body = [steps.along, steps.across].map(|step| u8::try_from(step).expect("one byte"));
+        put_field(&mut bytes, STEPS_TAG, &body);
+    }
     bytes
 }
 
@@ -299,6 +392,18 @@ fn check_wedge(wedge: i32, rows: usize, columns: usize) -> Result<(), Refusal> {
         return refuse(8, wedge_offset(rows, columns));
     }
     Ok(())
+}
+
+/// `at` is the offset of the first of the two steps.
+fn check_steps(steps: Steps, at: usize) -> Result<(), Refusal> {
+    let steps = [steps.along, steps.across];
+    match steps
+        .iter()
+        .position(|step| !(1..=LARGEST_STEP).contains(step))
+    {
+        Some(number) => refuse(15, at + number),
+        None => Ok(()),
+    }
 }
 
 pub(crate) fn check_dominance(system: System, weights: &[u16]) -> Result<(), Refusal> {

@@ -17,6 +17,7 @@ pub mod relax;
 pub mod report;
 pub mod run;
 pub mod samples;
+mod step_vectors;
 pub mod vectors;
 pub mod weights;
 

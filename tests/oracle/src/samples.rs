@@ -2,8 +2,8 @@
 //! mesh, or a gauged film converted; the makers add the least weights.
 
 use crate::coefficient_film::{self, convert, CoefficientFilm};
-use crate::coefficients::Coefficients;
-use crate::film::{write, Film};
+use crate::coefficients::{form, Coefficients};
+use crate::film::{write, Film, Steps};
 use crate::weights::{least_weights, least_weights_of};
 use crate::Whole;
 
@@ -29,7 +29,17 @@ pub fn made(
         weights,
         thickness,
         wedge,
+        steps: None,
     }
+}
+
+/// The same film with the steps `along` and `across`, and the least weights of the matrix that it then
+/// has.
+pub fn stepped(film: &Film, (along, across): (u32, u32)) -> Film {
+    let mut film = film.clone();
+    film.steps = Some(Steps { along, across });
+    film.weights = least_weights_of(form(&film)).expect("weights above 65,535");
+    film
 }
 
 /// What a mesh has at a cell: how much it loses at the rim, its faces to column c + 1 and to row
@@ -88,7 +98,24 @@ pub fn film_f() -> Film {
         weights: vec![1, 1],
         thickness: vec![1, 1, 1, 1, 3, 2, 1, 1, 1, 1, 1, 1],
         wedge: 100,
+        steps: None,
     }
+}
+
+/// Film F gauged at unequal steps, along 2 and across 3. Its least weights are those of film F, 1 and 1.
+pub fn film_f_steps() -> Film {
+    stepped(&film_f(), (2, 3))
+}
+
+/// The largest grid, gauged at a step across that is twice as coarse as that along: in the difference
+/// form each step enters with its square, so links within a row are taken 4 times. A slider that falls by 3
+/// a column from 114 at the inlet to 15 at the outlet, and lies up to 4 deeper towards its outer rows.
+pub fn unequal_pad() -> Film {
+    let pad = made((32, 32), 1_000_000, 100_000_000, |r, c| {
+        let from_middle = (2 * r).abs_diff(33) as u8;
+        114 - 3 * c as u8 + from_middle / 8
+    });
+    stepped(&pad, (4, 1))
 }
 
 /// A plane slider: thickness falls by 3 a column from 90 at the inlet to 15 at the outlet, the
@@ -211,6 +238,11 @@ pub fn refused_coefficients() -> CoefficientFilm {
 
 /// Every sample with its name, in the order of the page that describes them.
 pub fn samples() -> Vec<(&'static str, Vec<u8>)> {
+    [equal_step_samples(), step_samples()].concat()
+}
+
+/// The samples without field 0A.
+pub(crate) fn equal_step_samples() -> Vec<(&'static str, Vec<u8>)> {
     let coefficients = coefficient_film::write;
     vec![
         ("film-f", write(&film_f())),
@@ -225,5 +257,13 @@ pub fn samples() -> Vec<(&'static str, Vec<u8>)> {
             "refused-coefficients",
             coefficients(&refused_coefficients()),
         ),
+    ]
+}
+
+/// The samples of unequal steps.
+pub(crate) fn step_samples() -> Vec<(&'static str, Vec<u8>)> {
+    vec![
+        ("film-f-steps", write(&film_f_steps())),
+        ("unequal-pad", write(&unequal_pad())),
     ]
 }

@@ -5,7 +5,8 @@ use crate::coefficient_film::convert;
 use crate::coefficient_vectors;
 use crate::film::{file_length, write, Film};
 use crate::report::reported_run;
-use crate::samples::{film_f, journal, made, samples, HIGHEST};
+use crate::samples::{equal_step_samples, film_f, journal, made, HIGHEST};
+use crate::step_vectors;
 
 /// A name and the bytes of a file, accepted or not.
 pub type Vector = (String, Vec<u8>);
@@ -13,7 +14,7 @@ pub type Vector = (String, Vec<u8>);
 /// Bytes that replace those at an offset of a file.
 pub(crate) type Patch<'a> = (usize, &'a [u8]);
 
-/// Every vector; the names carry their place in the order.
+/// Every vector; the names carry their place in the order, so new ones come last.
 pub fn all() -> Vec<Vector> {
     let mut list = List(Vec::new());
     cuts(&mut list);
@@ -29,10 +30,12 @@ pub fn all() -> Vec<Vector> {
     overs(&mut list);
     slow(&mut list);
     largest(&mut list);
-    for (name, bytes) in samples() {
+    for (name, bytes) in equal_step_samples() {
         list.add(&format!("sample-{name}"), bytes);
     }
     coefficient_vectors::add(&mut list);
+    step_vectors::add(&mut list);
+    coefficient_vectors::add_beside_steps(&mut list);
     list.0
 }
 
@@ -44,7 +47,7 @@ impl List {
         self.0.push((format!("{number:03}-{name}"), bytes));
     }
 
-    fn film(&mut self, name: &str, film: &Film) {
+    pub(crate) fn film(&mut self, name: &str, film: &Film) {
         self.add(name, write(film));
     }
 
@@ -81,7 +84,7 @@ impl Generator {
     }
 
     /// A film of random thicknesses from `low` to `high`.
-    fn rough(&mut self, shape: (usize, usize), low: u8, high: u8, wedge: i32) -> Film {
+    pub(crate) fn rough(&mut self, shape: (usize, usize), low: u8, high: u8, wedge: i32) -> Film {
         let thickness: Vec<u8> = (0..(shape.0 + 2) * (shape.1 + 2))
             .map(|_| self.within(low.into(), high.into()) as u8)
             .collect();
@@ -111,7 +114,7 @@ fn cuts(list: &mut List) {
 }
 
 /// A pad of 5 × 7, thin enough for quick runs.
-fn plain_pad() -> Film {
+pub(crate) fn plain_pad() -> Film {
     made((5, 7), 10_000, 100_000, |_, c| 20 - 2 * c as u8)
 }
 
@@ -582,7 +585,7 @@ fn largest(list: &mut List) {
     });
     list.film("large-flat-32x32", &flat);
     let bytes = write(&flat);
-    assert_eq!(bytes.len(), file_length(32, 32));
+    assert_eq!(bytes.len(), file_length(32, 32, false));
     list.add("large-byte-after", [&bytes[..], &[0x05]].concat());
     list.add("large-cut-3228", bytes[..3_228].to_vec());
     let mut weak = journal();

@@ -5,7 +5,7 @@ use crate::coefficients::{form, Coefficients};
 use crate::film::Film;
 use crate::run::{run, Answer, Ordering};
 
-/// None where a weight would pass 65,535.
+/// For a film of equal steps. None where a weight would pass 65,535.
 pub fn least_weights(rows: usize, columns: usize, thickness: &[u8]) -> Option<Vec<u16>> {
     least_weights_of(form(&Film {
         rows,
@@ -14,6 +14,7 @@ pub fn least_weights(rows: usize, columns: usize, thickness: &[u8]) -> Option<Ve
         weights: Vec::new(),
         thickness: thickness.to_vec(),
         wedge: 0,
+        steps: None,
     }))
 }
 

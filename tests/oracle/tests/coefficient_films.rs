@@ -23,8 +23,8 @@ const UPS: usize = 41;
 const SOURCES: usize = 52;
 const END: usize = 71;
 
-const LARGEST_DIAGONAL: Whole = 134_217_728;
-const LARGEST_LINK: Whole = 16_777_216;
+const LARGEST_DIAGONAL: Whole = 268_435_456;
+const LARGEST_LINK: Whole = 67_108_864;
 const LARGEST_SOURCE: Whole = 1_125_899_906_842_624;
 
 /// Film F's coefficient file, from its digits.
@@ -246,8 +246,8 @@ fn faults() -> Vec<Fault> {
     // The last list's fault is at the lower cell, so it is named first.
     faults.push(fault(SOURCES + 3, &[0x80], (14, 0), END));
     faults.push(fault(DIAGONALS + 7, &[0, 0, 0, 0], (14, 1), END));
-    // A link of 16,777,215 keeps its limit, but no weights of 1 hold it.
-    faults.push(fault(RIGHTS + 3, &[0, 0xff, 0xff, 0xff], (9, 0), END));
+    // A link of 67,108,863 keeps its limit, but no weights of 1 hold it.
+    faults.push(fault(RIGHTS + 3, &[3, 0xff, 0xff, 0xff], (9, 0), END));
     faults
 }
 
@@ -593,7 +593,8 @@ fn lowest_cell_over_all_lists() {
     }
 }
 
-/// The greatest numbers of a file at once, which the weights hold.
+/// The greatest numbers of a file at once, which the weights hold. A diagonal is then just four links: in
+/// the middle 4 × 65,535 is above 4 × 60,000, at a side 4 × 60,000 above 65,535 + 2 × 60,000.
 #[test]
 fn all_at_their_limits() {
     let mut film = meshed((3, 3), 16_777_216, |_, _| Faces {
@@ -602,10 +603,13 @@ fn all_at_their_limits() {
         up: LARGEST_LINK,
         source: -LARGEST_SOURCE,
     });
-    film.weights = vec![u16::MAX; 9];
+    film.weights = vec![60_000; 9];
+    film.weights[4] = u16::MAX;
     film.coefficients.diagonals = vec![LARGEST_DIAGONAL; 9];
     film.coefficients.sources[4] = LARGEST_SOURCE;
-    assert_eq!(checked_read(&write(&film)), Ok(film));
+    assert_eq!(checked_read(&write(&film)), Ok(film.clone()));
+    film.weights[4] = 60_000;
+    assert_eq!(checked_read(&write(&film)), refuse(9, 4));
 }
 
 /// The report takes the coefficient reader where the byte after field 03 is 06, and only there.

@@ -6,7 +6,7 @@ use film_oracle::film::{self, Film};
 use film_oracle::relax::{feasible, required};
 use film_oracle::report::{self, report};
 use film_oracle::run::{run, Answer, Ordering, Outcome};
-use film_oracle::samples::{journal_thickness, made, meshed, Faces};
+use film_oracle::samples::{journal_thickness, made, meshed, stepped, Faces};
 use film_oracle::vectors::all;
 use std::collections::HashSet;
 
@@ -83,10 +83,18 @@ impl Generator {
         low + self.below((high - low + 1) as u64) as i64
     }
 
-    fn gauged(&mut self, shape: (usize, usize), ceiling: u32) -> CoefficientFilm {
+    fn gauged(&mut self, shape: (usize, usize), ceiling: u32) -> Film {
         let wedge = self.within(-1_500, 1_499) as i32;
         let numbers: Vec<u8> = (0..36).map(|_| 1 + self.below(4) as u8).collect();
-        convert(&made(shape, ceiling, wedge, |r, c| numbers[6 * r + c]))
+        made(shape, ceiling, wedge, |r, c| numbers[6 * r + c])
+    }
+
+    /// The same with steps, and a wedge that still lifts beside them.
+    fn stepped(&mut self, shape: (usize, usize), ceiling: u32) -> Film {
+        let mut film = self.gauged(shape, ceiling);
+        film.wedge *= 3;
+        let steps = (self.within(1, 4) as u32, self.within(1, 4) as u32);
+        stepped(&film, steps)
     }
 
     /// Coefficients that come from no gauge: small ones, links of 0 among them.
@@ -118,13 +126,13 @@ fn small_films_by_trial() {
     let mut generator = Generator(0x1234_5678_9abc_def1);
     let shapes = [(1, 1), (1, 2), (2, 1), (1, 3), (2, 2), (3, 1), (1, 4)];
     let (mut done, mut over) = (0, 0);
-    for round in 0..2_800 {
+    for round in 0..4_200 {
         let shape = shapes[round % shapes.len()];
         let ceiling = 2 + generator.below(5) as u32;
-        let film = if round < 1_400 {
-            generator.gauged(shape, ceiling)
-        } else {
-            generator.mesh(shape, ceiling)
+        let film = match round / 1_400 {
+            0 => convert(&generator.gauged(shape, ceiling)),
+            1 => generator.mesh(shape, ceiling),
+            _ => convert(&generator.stepped(shape, ceiling)),
         };
         let start = generator.start(&film, round % 2 == 0);
         let least = least_by_trial(&film, &start);
@@ -179,18 +187,21 @@ fn parse(text: &str) -> Parsed {
     }
 }
 
-/// The slack as a sum of flows through the four faces, straight from thicknesses: neither
-/// diagonals nor links are formed. `pressures` has the ring's zeros around it.
+/// The slack by the difference form of Reynolds' equation, a sum of flows through the four faces,
+/// straight from thicknesses: neither diagonals nor links are formed. Flows along a row have the first
+/// step for a factor, flows between rows the second. `pressures` has the ring's zeros around it.
 fn slack_by_flows(film: &Film, pressures: &[i128], r: usize, c: usize) -> i128 {
     let wide = film.columns + 2;
     let h = |r: usize, c: usize| i128::from(film.thickness[r * wide + c]);
     let p = |r: usize, c: usize| pressures[r * wide + c];
-    let faces = [(r - 1, c), (r + 1, c), (r, c - 1), (r, c + 1)];
-    let out: i128 = faces
-        .iter()
-        .map(|&(i, j)| (h(r, c) + h(i, j)).pow(3) * (p(r, c) - p(i, j)))
-        .sum();
-    out + i128::from(film.wedge) * (h(r, c + 1) - h(r, c - 1))
+    let (along, across) = match film.steps {
+        Some(steps) => (i128::from(steps.along), i128::from(steps.across)),
+        None => (1, 1),
+    };
+    let flow = |i, j| (h(r, c) + h(i, j)).pow(3) * (p(r, c) - p(i, j));
+    let row = flow(r, c - 1) + flow(r, c + 1);
+    let column = flow(r - 1, c) + flow(r + 1, c);
+    along * row + across * column + i128::from(film.wedge) * (h(r, c + 1) - h(r, c - 1))
 }
 
 /// A number of a file, where it lies.

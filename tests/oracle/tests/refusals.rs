@@ -29,7 +29,7 @@ fn reader_fills_only_what_it_uses() {
     let mut weights = [9_u16; 1_024];
     let mut thickness = [9_u8; 1_156];
     let read = read_into(&bytes, &mut weights, &mut thickness);
-    assert_eq!(read, Ok((1, 2, 100, 100)));
+    assert_eq!(read, Ok((1, 2, 100, 100, None)));
     assert_eq!(weights[..3], [1, 1, 9]);
     assert_eq!(thickness[..13], [1, 1, 1, 1, 3, 2, 1, 1, 1, 1, 1, 1, 9]);
     assert!(weights[2..].iter().all(|&w| w == 9));
@@ -138,13 +138,14 @@ fn run_refuses_in_order() {
 
 #[test]
 fn coefficient_limits() {
-    let limits: [(usize, usize, Whole, bool); 14] = [
+    let limits: [(usize, usize, Whole, bool); 15] = [
         (0, 0, 0, false),
-        (0, 0, 134_217_728, true),
-        (0, 0, 134_217_729, false),
+        (0, 0, 134_217_729, true),
+        (0, 0, 268_435_456, true),
+        (0, 0, 268_435_457, false),
         (1, 0, -1, false),
         (1, 0, 0, true),
-        (1, 0, 16_777_217, false),
+        (1, 0, 67_108_865, false),
         (1, 1, 1, false),
         (2, 0, 1, false),
         (2, 1, 1, false),
@@ -168,6 +169,35 @@ fn coefficient_limits() {
             assert!(result.is_ok(), "{which} {cell} {number}");
         } else {
             assert_eq!(result, refuse(14, cell), "{which} {cell} {number}");
+        }
+    }
+}
+
+/// The largest link passes wherever the diagonals hold it, and one more passes nowhere.
+#[test]
+fn link_limits() {
+    for (rows, columns) in [(1, 2), (2, 1)] {
+        for (link, fits) in [(16_777_217, true), (67_108_864, true), (67_108_865, false)] {
+            let mut links = [vec![link, 0], vec![0, 0]];
+            if columns == 1 {
+                links.reverse();
+            }
+            let [rights, ups] = links;
+            let given = Problem {
+                rows,
+                columns,
+                ceiling: 100,
+                diagonals: &[268_435_456; 2],
+                rights: &rights,
+                ups: &ups,
+                sources: &[-1; 2],
+                weights: &[1; 2],
+            };
+            let mut field = [0_u32; 2];
+            let told = calls::run(given, &mut field, 4, 0, false).map(|_| ());
+            let wanted = if fits { Ok(()) } else { refuse(14, 0) };
+            assert_eq!(told, wanted, "{rows} {columns} {link}");
+            assert_eq!(calls::margin(given).map(|_| ()), wanted);
         }
     }
 }

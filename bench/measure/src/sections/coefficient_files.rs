@@ -1,12 +1,12 @@
 //! Coefficient films: reading and writing their files, converting gauged films, and the report.
 
-use crate::calls::{self, head};
+use crate::calls::{self, head, steps_of};
 use crate::clock::by_turns;
 use crate::plain_coefficients;
 use crate::plain_file::Numbers;
 use crate::problem::Problem;
 use crate::sections::files::{report_times, row};
-use film::raw::{Coefficients, Gauge};
+use film::raw::{self, Coefficients, Gauge};
 use film::Head;
 use film_oracle::coefficient_film::{convert, read, write, CoefficientFilm};
 use film_oracle::film::Film;
@@ -154,6 +154,7 @@ fn convert_times(film: &Film) -> [f64; 2] {
         weights: &film.weights,
         thicknesses: &film.thickness,
         wedge: film.wedge,
+        steps: &raw::Steps::from(steps_of(film)),
     };
     let (mut one, mut other) = (vec![0; expected.len()], vec![0; expected.len()]);
     calls::convert(gauge, &mut one).expect("an accepted film");

@@ -1,13 +1,13 @@
 //! Reading a film file, forming coefficients, converting, and printing the report.
 
-use crate::calls::{self, head, Lent};
+use crate::calls::{self, head, steps_of, Lent};
 use crate::clock::by_turns;
 use crate::page::{remark, Section};
 use crate::plain_file::{self, Numbers};
 use crate::problem::at_rest;
 use crate::sections::coefficient_files;
-use film::raw::Gauge;
-use film::Head;
+use film::raw::{self, Gauge};
+use film::{Head, Steps};
 use film_oracle::coefficients::form;
 use film_oracle::film::{read, write, Film};
 use film_oracle::report::report;
@@ -83,9 +83,10 @@ impl Buffers {
     }
 
     /// They hold the film that the oracle reads from the file.
-    fn hold(&self, film: &Film, (found, wedge): (Head, i32)) -> bool {
+    fn hold(&self, film: &Film, (found, wedge, steps): (Head, i32, Option<Steps>)) -> bool {
         found == head(film.rows, film.columns, film.ceiling)
             && wedge == film.wedge
+            && steps == steps_of(film)
             && self.weights.starts_with(&film.weights)
             && self.thicknesses.starts_with(&film.thickness)
     }
@@ -141,6 +142,7 @@ fn form_times(film: &Film) -> [f64; 2] {
         weights: &film.weights,
         thicknesses: &film.thickness,
         wedge: film.wedge,
+        steps: &raw::Steps::from(steps_of(film)),
     };
     let (mut one, mut other) = (Lent::new(film.cells()), Lent::new(film.cells()));
     calls::form(gauge, &mut one).expect("an accepted film");

@@ -13,14 +13,14 @@ use Rattle.coefficients.proofs.form.Tie as tie
 abbrev check : tie.Start → Check
 check s =
     let a = s .args in
-    formCheck (gaugeOf (a .head) (now (a .weights)) (now (a .thicknesses)) (a .wedge)) (now (a .diagonals)) (now (a .rights)) (now (a .ups)) (now (a .sources))
+    formCheck (gaugeOf (a .head) (now (a .weights)) (now (a .thicknesses)) (a .wedge) (a .steps)) (now (a .diagonals)) (now (a .rights)) (now (a .ups)) (now (a .sources))
 
 -- the tests find what document 01's do
 tested : (t : tie.After-gauge-tests) → checkOf (t .gauge-tests .result) ≡ check (t .before .before .before .before .before .before .before)
 tested t =
     let s = t .before .before .before .before .before .before .before in
     let a = s .args in
-    form-tested (a .head) (now (a .weights)) (now (a .thicknesses)) (a .wedge) (now (a .diagonals)) (now (a .rights)) (now (a .ups)) (now (a .sources))
+    form-tested (a .head) (now (a .weights)) (now (a .thicknesses)) (a .wedge) (a .steps) (now (a .diagonals)) (now (a .rights)) (now (a .ups)) (now (a .sources))
     (t .before .area .ensures) (toZ-ofZ (s .fits .wedge)) (t .gauge-tests .ensures)
 
 area-requires : tie.Need-area-requires
@@ -37,7 +37,7 @@ form-requires c κs =
     let t = c .before .before .before .before .before .before in
     let a = t .before .before .before .before .before .before .before .args in
     let e = sym (tested t) ∙ ap checkOf (c .before .before .before .before .enum-told .given .1) in
-    form-ready (a .head) (now (a .weights)) (now (a .thicknesses)) (a .wedge) (now (a .diagonals)) (now (a .rights)) (now (a .ups)) (now (a .sources)) e
+    form-ready (a .head) (now (a .weights)) (now (a .thicknesses)) (a .wedge) (a .steps) (now (a .diagonals)) (now (a .rights)) (now (a .ups)) (now (a .sources)) e
 
 enum-known-r : tie.Need-enum-known-r
 enum-known-r c = search needs
@@ -61,13 +61,13 @@ returns c =
     let s = t .before .before .before .before .before .before .before in
     let a = s .args in
     let e = sym (tested t) ∙ ap checkOf (f .before .before .before .before .before .enum-told .given .1) in
-    form-written (a .head) (now (a .weights)) (now (a .thicknesses)) (a .wedge) (now (a .diagonals)) (now (a .rights)) (now (a .ups)) (now (a .sources)) e
-    (wedge-formed (a .head) (now (a .thicknesses)) (toZ-ofZ (s .fits .wedge)) (f .form .ensures)) (
+    form-written (a .head) (now (a .weights)) (now (a .thicknesses)) (a .wedge) (a .steps) (now (a .diagonals)) (now (a .rights)) (now (a .ups)) (now (a .sources)) e
+    (wedge-formed (a .head) (now (a .thicknesses)) (a .steps) (toZ-ofZ (s .fits .wedge)) (f .form .ensures)) (
     record {
-      diagonals-kept = f .form .kept .1 .1 .1 .0;
-      rights-kept = f .form .kept .1 .1 .1 .1 .0;
-      ups-kept = f .form .kept .1 .1 .1 .1 .1 .0;
-      sources-kept = f .form .kept .1 .1 .1 .1 .1 .1 .0;
+      diagonals-kept = f .form .kept .1 .1 .1 .1 .0;
+      rights-kept = f .form .kept .1 .1 .1 .1 .1 .0;
+      ups-kept = f .form .kept .1 .1 .1 .1 .1 .1 .0;
+      sources-kept = f .form .kept .1 .1 .1 .1 .1 .1 .1 .0;
     }
     )
 
@@ -75,7 +75,7 @@ returns-2 : tie.Need-returns-2
 returns-2 c =
     let t = c .before .before .before in
     let a = t .before .before .before .before .before .before .before .args in
-    form-refused (a .head) (now (a .weights)) (now (a .thicknesses)) (a .wedge) (now (a .diagonals)) (now (a .rights)) (now (a .ups)) (now (a .sources))
+    form-refused (a .head) (now (a .weights)) (now (a .thicknesses)) (a .wedge) (a .steps) (now (a .diagonals)) (now (a .rights)) (now (a .ups)) (now (a .sources))
     (sym (tested t) ∙ ap checkOf (c .before .r .given .1))
 
 pub form-spec : {M : Type 1} → statement M

@@ -14,7 +14,7 @@ use Rattle.conversion.proofs.convert.Statement.{statement}
 use Rattle.conversion.proofs.convert.Tie as tie
 
 abbrev film : tie.Start → Gauge
-film s = gaugeOf (s .args .head) (now (s .args .weights)) (now (s .args .thicknesses)) (s .args .wedge)
+film s = gaugeOf (s .args .head) (now (s .args .weights)) (now (s .args .thicknesses)) (s .args .wedge) (s .args .steps)
 
 -- what the tests find
 tested : (c : tie.After-gauge-tests) → let s = c .before .before .before .before .before in
@@ -22,7 +22,7 @@ tested : (c : tie.After-gauge-tests) → let s = c .before .before .before .befo
 tested c =
     let s = c .before .before .before .before .before in
     let a = s .args in
-    convert-tested (a .head) (now (a .weights)) (now (a .thicknesses)) (a .wedge) (now (a .out)) (c .before .file-length .ensures) (toZ-ofZ (s .fits .wedge)) (c .gauge-tests .ensures)
+    convert-tested (a .head) (now (a .weights)) (now (a .thicknesses)) (a .wedge) (a .steps) (now (a .out)) (c .before .file-length .ensures) (toZ-ofZ (s .fits .wedge)) (c .gauge-tests .ensures)
 
 file-length-requires : tie.Need-file-length-requires
 file-length-requires c κs = search needs

@@ -21,7 +21,7 @@ use Rattle.conversion.proofs.put_formed.Statement.{statement}
 use Rattle.conversion.proofs.put_formed.Tie as tie
 
 abbrev gauge : tie.Start → Gauge
-gauge s = gaugeOf (s .args .head) (now (s .args .weights)) (now (s .args .thicknesses)) (s .args .wedge)
+gauge s = gaugeOf (s .args .head) (now (s .args .weights)) (now (s .args .thicknesses)) (s .args .wedge) (s .args .steps)
 
 -- the start, from where the coefficients are formed, and from there on; and the forming, from where its tables are back
 abbrev entry : tie.After-sources → tie.Start
@@ -41,15 +41,15 @@ abbrev film : tie.After-form → Film
 film f =
     let s = start f in
     let n = length (now (s .args .weights)) in
-    filmOf (s .args .head) (now (s .args .weights)) (take n (f .form .last .1 .1 .1 .0)) (take n (f .form .last .1 .1 .1 .1 .0)) (take n (f .form .last .1 .1 .1 .1 .1 .0))
-    (take n (f .form .last .1 .1 .1 .1 .1 .1 .0))
+    filmOf (s .args .head) (now (s .args .weights)) (take n (f .form .last .1 .1 .1 .1 .0)) (take n (f .form .last .1 .1 .1 .1 .1 .0)) (take n (f .form .last .1 .1 .1 .1 .1 .1 .0))
+    (take n (f .form .last .1 .1 .1 .1 .1 .1 .1 .0))
 
 film-is : (f : tie.After-form) → film f ≡ formed (gauge (start f))
 film-is f =
     let s = start f in
     let a = s .args in
-    film-formed (a .head) (now (a .weights)) (now (a .thicknesses)) (a .wedge) (s .pre .0 .weights-len)
-    (wedge-formed (a .head) (now (a .thicknesses)) (toZ-ofZ (s .fits .wedge)) (f .form .ensures))
+    film-formed (a .head) (now (a .weights)) (now (a .thicknesses)) (a .wedge) (a .steps) (s .pre .0 .weights-len)
+    (wedge-formed (a .head) (now (a .thicknesses)) (a .steps) (toZ-ofZ (s .fits .wedge)) (f .form .ensures))
 
 slice-aggregate-form : tie.Need-slice-aggregate-form
 slice-aggregate-form c = search needs
@@ -68,7 +68,7 @@ form-requires c κs =
     let s = entry c in
     let n = low s in
     let m = s .pre .0 in (
-      measured-ringed m,
+      (measured-ringed m, s .pre .2),
       record {
         diagonals-room = omega (arith, m .weights-len);
         rights-room = omega (arith, m .weights-len);
@@ -78,28 +78,28 @@ form-requires c κs =
     )
 
 array-share-prefix-diagonals : tie.Need-array-share-prefix-diagonals
-array-share-prefix-diagonals c = let f = back c in omega (arith, low (start f), f .form .kept .1 .1 .1 .0)
+array-share-prefix-diagonals c = let f = back c in omega (arith, low (start f), f .form .kept .1 .1 .1 .1 .0)
 
 slice-aggregate-put-film : tie.Need-slice-aggregate-put-film
-slice-aggregate-put-film c = let f = back (c .before) in sym (length-take-le _ _ (omega (arith, low (start f), f .form .kept .1 .1 .1 .0)))
+slice-aggregate-put-film c = let f = back (c .before) in sym (length-take-le _ _ (omega (arith, low (start f), f .form .kept .1 .1 .1 .1 .0)))
 
 array-share-prefix-rights : tie.Need-array-share-prefix-rights
-array-share-prefix-rights c = let f = back (c .before) in omega (arith, low (start f), f .form .kept .1 .1 .1 .1 .0)
+array-share-prefix-rights c = let f = back (c .before) in omega (arith, low (start f), f .form .kept .1 .1 .1 .1 .1 .0)
 
 slice-aggregate-put-film-2 : tie.Need-slice-aggregate-put-film-2
-slice-aggregate-put-film-2 c = let f = back (c .before .before) in sym (length-take-le _ _ (omega (arith, low (start f), f .form .kept .1 .1 .1 .1 .0)))
+slice-aggregate-put-film-2 c = let f = back (c .before .before) in sym (length-take-le _ _ (omega (arith, low (start f), f .form .kept .1 .1 .1 .1 .1 .0)))
 
 array-share-prefix-ups : tie.Need-array-share-prefix-ups
-array-share-prefix-ups c = let f = back (c .before .before) in omega (arith, low (start f), f .form .kept .1 .1 .1 .1 .1 .0)
+array-share-prefix-ups c = let f = back (c .before .before) in omega (arith, low (start f), f .form .kept .1 .1 .1 .1 .1 .1 .0)
 
 slice-aggregate-put-film-3 : tie.Need-slice-aggregate-put-film-3
-slice-aggregate-put-film-3 c = let f = back (c .before .before .before) in sym (length-take-le _ _ (omega (arith, low (start f), f .form .kept .1 .1 .1 .1 .1 .0)))
+slice-aggregate-put-film-3 c = let f = back (c .before .before .before) in sym (length-take-le _ _ (omega (arith, low (start f), f .form .kept .1 .1 .1 .1 .1 .1 .0)))
 
 array-share-prefix-sources : tie.Need-array-share-prefix-sources
-array-share-prefix-sources c = let f = back (c .before .before .before) in omega (arith, low (start f), f .form .kept .1 .1 .1 .1 .1 .1 .0)
+array-share-prefix-sources c = let f = back (c .before .before .before) in omega (arith, low (start f), f .form .kept .1 .1 .1 .1 .1 .1 .1 .0)
 
 slice-aggregate-put-film-4 : tie.Need-slice-aggregate-put-film-4
-slice-aggregate-put-film-4 c = let f = back (c .before .before .before .before) in sym (length-take-le _ _ (omega (arith, low (start f), f .form .kept .1 .1 .1 .1 .1 .1 .0)))
+slice-aggregate-put-film-4 c = let f = back (c .before .before .before .before) in sym (length-take-le _ _ (omega (arith, low (start f), f .form .kept .1 .1 .1 .1 .1 .1 .1 .0)))
 
 put-film-requires : tie.Need-put-film-requires
 put-film-requires c κs =

@@ -42,6 +42,9 @@ mul-plain-field c = search needs
 plain-field-requires : tie.Need-plain-field-requires
 plain-field-requires c κs = search needs
 
+steps-field-requires : tie.Need-steps-field-requires
+steps-field-requires c κs = search needs
+
 mul-plain-field-2 : tie.Need-mul-plain-field-2
 mul-plain-field-2 c = search needs
 
@@ -66,28 +69,31 @@ returns-4 c = found (c .before .before) (rw (c .before .match .keys4) (c .thickn
 returns-5 : tie.Need-returns-5
 returns-5 c = found (c .before .before) (rw (c .before .match .keys5) (c .wedge-field .ensures))
 
--- tag 9; tags 6 to 8; 0, and tags above
+-- tag 9; tag 10; tags 6 to 8; 0, and tags above
 returns-6 : tie.Need-returns-6
 returns-6 c =
     let T = c .plain-field .ensures in
     found (c .before .before) (rw (c .before .match .keys6) (record { finds = T .finds; goes-on = T .goes-on }))
 
 returns-7 : tie.Need-returns-7
-returns-7 c =
+returns-7 c = found (c .before .before) (rw (c .before .match .keys7) (c .steps-field .ensures))
+
+returns-8 : tie.Need-returns-8
+returns-8 c =
     let k = c .before .before in
     let a = k .before .before .before .args in
     let r = k .match .rest in
     found (k .before)
     (longs-tried (a .n) (a .t) _
-    (omega (arith, r .0 .0 .0 .0 .0 .0 .1, r .0 .0 .0 .0 .0 .1, r .0 .0 .0 .0 .1, r .0 .0 .0 .1, r .0 .0 .1, r .1)) (c .before .if1 .taken)
+    (omega (arith, r .0 .0 .0 .0 .0 .0 .0 .1, r .0 .0 .0 .0 .0 .0 .1, r .0 .0 .0 .0 .0 .1, r .0 .0 .0 .0 .1, r .0 .0 .0 .1, r .1)) (c .before .if1 .taken)
     (c .plain-field2 .ensures))
 
-returns-8 : tie.Need-returns-8
-returns-8 c =
+returns-9 : tie.Need-returns-9
+returns-9 c =
     let a = c .before .before .before .before .args in
     found (c .before .before)
-    (⊎-elim (λ w. rw (w .keys7) (c .plain-field3 .ensures))
-    (λ w. unknown-tried (a .n) (a .t) (c .before .before .byte-at .result) (omega (arith, w .0 .rest .0 .1, w .1 .left)) (c .plain-field3 .ensures))
+    (⊎-elim (λ w. rw (w .keys8) (c .plain-field3 .ensures))
+    (λ w. unknown-tried (a .n) (a .t) (c .before .before .byte-at .result) (omega (arith, w .0 .rest .0 .1, w .0 .rest .0 .0 .1, w .1 .left)) (c .plain-field3 .ensures))
     (c .before .match .came))
 
 pub field-test-spec : {M : Type 1} → statement M
@@ -102,6 +108,7 @@ field-test-spec =
     wedge-field-requires
     mul-plain-field
     plain-field-requires
+    steps-field-requires
     mul-plain-field-2
     plain-field-requires-2
     plain-field-requires-3
@@ -112,4 +119,5 @@ field-test-spec =
     returns-5
     returns-6
     returns-7
-    returns-8)
+    returns-8
+    returns-9)

@@ -13,7 +13,7 @@ use Rattle.file.proofs.write.Tie as tie
 
 -- what the tests find
 abbrev film : tie.Start → Gauge
-film s = gaugeOf (s .args .head) (now (s .args .weights)) (now (s .args .thicknesses)) (s .args .wedge)
+film s = gaugeOf (s .args .head) (now (s .args .weights)) (now (s .args .thicknesses)) (s .args .wedge) (s .args .steps)
 
 tested : (c : tie.After-gauge-tests) → let s = c .before .before .before .before .before in
     checkOf (c .gauge-tests .result) ≡ saveCheck (film s) (now (s .args .out))

@@ -23,6 +23,9 @@ number-requires-3 c κs = search needs
 signed-number-requires : tie.Need-signed-number-requires
 signed-number-requires c κs = search needs
 
+grid-requires : tie.Need-grid-requires
+grid-requires c κs = search needs
+
 slice-aggregate-text-2 : tie.Need-slice-aggregate-text-2
 slice-aggregate-text-2 c = search needs
 
@@ -60,6 +63,7 @@ film-spec =
     number-requires-2
     number-requires-3
     signed-number-requires
+    grid-requires
     slice-aggregate-text-2
     text-requires-2
     coefficients-requires

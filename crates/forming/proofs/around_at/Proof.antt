@@ -1,10 +1,8 @@
 -- `forming::around_at` meets its contract: the five places are within the thicknesses (`places`), and are those that the model names (`around-is`).
 use lib.ListN.{length}
 use denote.Ref.{now}
-use mathlib.Core.List.{[]}
-use lib.IntN.{pos}
 use Rattle.model.specs.Gauge.{Gauge}
-use Rattle.model.specs.FileCalls.{gaugeOf}
+use Rattle.model.specs.FileCalls.{bareOf}
 use native.Mathlib.Omega.{arith}
 use Rattle.forming.proofs.Cell.{Places, places, around-is}
 use borrow.Author.Needs.{needs}
@@ -12,7 +10,7 @@ use Rattle.forming.proofs.around_at.Statement.{statement}
 use Rattle.forming.proofs.around_at.Tie as tie
 
 abbrev film : tie.Start → Gauge
-film s = gaugeOf (s .args .head) [] (now (s .args .thicknesses)) (pos 0)
+film s = bareOf (s .args .head) (now (s .args .thicknesses))
 
 known : (s : tie.Start) → Places (s .args .head .columns) (s .args .row) (s .args .column) (length (now (s .args .thicknesses)))
 known s = places (film s) (s .args .row) (s .args .column) (s .pre .1) (s .pre .0)

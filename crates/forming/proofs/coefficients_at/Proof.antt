@@ -26,7 +26,7 @@ returns c =
     let s = c .before .before .before .before .before in
     let a = s .args in
     c .coefficients-of .ensures
-    ∙ ap₂ (λ (x : Around) (w : ℤ). coefficientsOf x w (ltb (a .column) (a .head .columns)) (ltb (a .row) (a .head .rows)))
+    ∙ ap₂ (λ (x : Around) (w : ℤ). coefficientsOf x (a .factors) w (ltb (a .column) (a .head .columns)) (ltb (a .row) (a .head .rows)))
     (c .before .before .before .around-at .ensures) (toZ-ofZ (s .fits .wedge))
 
 pub coefficients-at-spec : {M : Type 1} → statement M

@@ -8,6 +8,7 @@ use borrow.Author.Needs.{needs, sfits-of}
 use mir.Syntax.{w32}
 use mir.Val.{toZ}
 use mir.Facts.{toZ-ofZ}
+use Rattle.model.specs.Gauge.{byFactors}
 use Rattle.model.specs.FileCalls.{gaugeOf}
 use Rattle.model.proofs.Sides.{row-end, cells-low}
 use Rattle.forming.specs.Cell.{Room}
@@ -16,12 +17,12 @@ use Rattle.forming.proofs.form_row.Statement.{statement}
 use Rattle.forming.proofs.form_row.Tie as tie
 
 abbrev Inv-loop : tie.InvT-loop
-Inv-loop head thicknesses wedge row diagonals₀ rights₀ ups₀ sources₀ columns first i₀ diagonals rights ups sources i =
+Inv-loop head thicknesses wedge factors row diagonals₀ rights₀ ups₀ sources₀ columns first i₀ diagonals rights ups sources i =
     (i ≤ head .columns)
-    × Written (gaugeOf head [] thicknesses (toZ w32 wedge)) ((row - 1) * head .columns + i) diagonals₀ rights₀ ups₀ sources₀ diagonals rights ups sources
+    × Written (gaugeOf head [] thicknesses (toZ w32 wedge) (byFactors factors)) ((row - 1) * head .columns + i) diagonals₀ rights₀ ups₀ sources₀ diagonals rights ups sources
 
 abbrev μ-loop : tie.MeasureT-loop
-μ-loop head thicknesses wedge row diagonals₀ rights₀ ups₀ sources₀ columns first i₀ diagonals rights ups sources i = columns - i
+μ-loop head thicknesses wedge factors row diagonals₀ rights₀ ups₀ sources₀ columns first i₀ diagonals rights ups sources i = columns - i
 
 -- the row's cells are among the film's, which are at most 1,024
 low : (s : tie.Start Inv-loop μ-loop) (i : ℕ) → i < s .args .head .columns → let h = s .args .head in
@@ -57,7 +58,7 @@ add-coefficients-at c = search needs
 coefficients-at-requires : tie.Need-coefficients-at-requires Inv-loop μ-loop
 coefficients-at-requires c κs =
     let s = c .before .before .before .before .before .before .before in
-    (s .pre .0 .0, (s .pre .0 .1, s .pre .0 .2, omega arith, omega (arith, c .loop-test .taken)))
+    ((s .pre .0 .0, s .pre .0 .3), (s .pre .0 .1, s .pre .0 .2, omega arith, omega (arith, c .loop-test .taken)))
 
 -- cell i of the row: its index, and room for it in the four slices
 spot : (c : tie.After-struct-told Inv-loop μ-loop) → let s = c .before .before .before .before .before .before .before .before .before in

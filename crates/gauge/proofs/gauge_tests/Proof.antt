@@ -10,7 +10,7 @@ use Rattle.gauge.proofs.gauge_tests.Statement.{statement}
 use Rattle.gauge.proofs.gauge_tests.Tie as tie
 
 abbrev film : tie.Start → Gauge
-film s = gaugeOf (s .args .head) (now (s .args .weights)) (now (s .args .thicknesses)) (s .args .wedge)
+film s = gaugeOf (s .args .head) (now (s .args .weights)) (now (s .args .thicknesses)) (s .args .wedge) (s .args .steps)
 
 shape-test-requires : tie.Need-shape-test-requires
 shape-test-requires c κs = search needs

@@ -1,4 +1,4 @@
--- `gauge::number_tests` meets its contract: its four tests are the model's, in its order, with the lengths and the offsets that the shape gives.
+-- `gauge::number_tests` meets its contract: its five tests are the model's, in its order, with the lengths and the offsets that the shape gives.
 use Rattle.refusals.proofs.Chain.{joined}
 use Rattle.gauge.proofs.Tests.{weights-low, thicknesses-low}
 use native.Mathlib.Omega.{arith}
@@ -29,17 +29,30 @@ thicknesses-test-requires c κs =
     let thin = thicknesses-low pre in
     omega arith
 
-add-wedge-test : tie.Need-add-wedge-test
-add-wedge-test c = search needs
+add-last : tie.Need-add-last
+add-last c = search needs
 
-add-wedge-test-2 : tie.Need-add-wedge-test-2
-add-wedge-test-2 c = search needs
+add-last-2 : tie.Need-add-last-2
+add-last-2 c = search needs
 
-add-wedge-test-3 : tie.Need-add-wedge-test-3
-add-wedge-test-3 c = search needs
+add-last-3 : tie.Need-add-last-3
+add-last-3 c = search needs
 
 wedge-test-requires : tie.Need-wedge-test-requires
 wedge-test-requires c κs = search needs
+
+add-steps-test : tie.Need-add-steps-test
+add-steps-test c = search needs
+
+add-steps-test-2 : tie.Need-add-steps-test-2
+add-steps-test-2 c = search needs
+
+steps-test-requires : tie.Need-steps-test-requires
+steps-test-requires c κs =
+    let pre = c .before .before .before .before .before .before .pre in
+    let few = weights-low pre in
+    let thin = thicknesses-low pre in
+    omega arith
 
 or-else-requires : tie.Need-or-else-requires
 or-else-requires c κs = search needs
@@ -50,17 +63,23 @@ or-else-requires-2 c κs = search needs
 or-else-requires-3 : tie.Need-or-else-requires-3
 or-else-requires-3 c κs = search needs
 
+or-else-requires-4 : tie.Need-or-else-requires-4
+or-else-requires-4 c κs = search needs
+
 returns : tie.Need-returns
 returns c =
-    let wedge = c .before .before .before in
+    let grid = c .before .before .before .before in
+    let wedge = grid .before in
     let thickness = wedge .before in
     let weight = thickness .before in
     let s = weight .before .before .before .before in
-    joined (c .or-else3 .ensures) (weight .before .ceiling-test .ensures)
-    (joined (c .before .or-else2 .ensures) (rw (s .pre .weights-len) at (weight .weight-test .ensures))
-    (joined (c .before .before .or-else .ensures)
+    joined (c .or-else4 .ensures) (weight .before .ceiling-test .ensures)
+    (joined (c .before .or-else3 .ensures) (rw (s .pre .weights-len) at (weight .weight-test .ensures))
+    (joined (c .before .before .or-else2 .ensures)
     (rw (s .pre .weights-len, s .pre .thicknesses-len) at (thickness .thicknesses-test .ensures))
-    (rw (s .pre .weights-len, s .pre .thicknesses-len, toZ-ofZ (s .fits .wedge)) at (wedge .wedge-test .ensures))))
+    (joined (c .before .before .before .or-else .ensures)
+    (rw (s .pre .weights-len, s .pre .thicknesses-len, toZ-ofZ (s .fits .wedge)) at (wedge .wedge-test .ensures))
+    (rw (s .pre .weights-len, s .pre .thicknesses-len) at (grid .steps-test .ensures)))))
 
 pub number-tests-spec : {M : Type 1} → statement M
 number-tests-spec =
@@ -72,11 +91,15 @@ number-tests-spec =
     weight-test-requires
     add-thicknesses-test
     thicknesses-test-requires
-    add-wedge-test
-    add-wedge-test-2
-    add-wedge-test-3
+    add-last
+    add-last-2
+    add-last-3
     wedge-test-requires
+    add-steps-test
+    add-steps-test-2
+    steps-test-requires
     or-else-requires
     or-else-requires-2
     or-else-requires-3
+    or-else-requires-4
     returns)

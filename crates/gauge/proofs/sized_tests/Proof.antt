@@ -17,7 +17,7 @@ use Rattle.gauge.proofs.sized_tests.Statement.{statement}
 use Rattle.gauge.proofs.sized_tests.Tie as tie
 
 abbrev film : tie.Start → Gauge
-film s = gaugeOf (s .args .head) (now (s .args .weights)) (now (s .args .thicknesses)) (s .args .wedge)
+film s = gaugeOf (s .args .head) (now (s .args .weights)) (now (s .args .thicknesses)) (s .args .wedge) (s .args .steps)
 
 -- what the test of the lengths finds
 fits-are : (t : tie.After-fail-if) → let s = t .before .before .before .before .before in

@@ -6,14 +6,14 @@ use Rattle.model.specs.Refusals.{checkOf}
 use Rattle.model.specs.Gauge.{Gauge}
 use Rattle.model.specs.FileCalls.{gaugeOf}
 use Rattle.gauge.specs.Tests.{numbersCheck}
-use Rattle.refusals.proofs.Chain.{goes-on, refuses}
-use Rattle.gauge.proofs.Tests.{measured-ringed}
+use Rattle.refusals.proofs.Chain.{passed, goes-on, refuses}
+use Rattle.gauge.proofs.Tests.{measured-ringed, numbers-stepped}
 use borrow.Author.Needs.{needs}
 use Rattle.gauge.proofs.value_tests.Statement.{statement}
 use Rattle.gauge.proofs.value_tests.Tie as tie
 
 abbrev film : tie.Start → Gauge
-film s = gaugeOf (s .args .head) (now (s .args .weights)) (now (s .args .thicknesses)) (s .args .wedge)
+film s = gaugeOf (s .args .head) (now (s .args .weights)) (now (s .args .thicknesses)) (s .args .wedge) (s .args .steps)
 
 -- what the tests before that of dominance find
 numbers-are : (t : tie.After-number-tests) → checkOf (t .number-tests .result) ≡ numbersCheck (film (t .before .before .before))
@@ -26,7 +26,10 @@ enum-told : tie.Need-enum-told
 enum-told c = search needs
 
 dominance-test-requires : tie.Need-dominance-test-requires
-dominance-test-requires c κs = let s = c .before .before .before .before .before in (measured-ringed (s .pre), s .pre .weights-len)
+dominance-test-requires c κs =
+    let t = c .before .before in
+    let s = t .before .before .before in
+    (measured-ringed (s .pre), s .pre .weights-len, numbers-stepped (film s) (passed (numbers-are t) (c .enum-told .given .1)))
 
 enum-known-r : tie.Need-enum-known-r
 enum-known-r c = search needs

@@ -13,7 +13,7 @@ use Rattle.model.specs.Coefficients.{formed}
 use Rattle.model.specs.Accepted.{Accepted}
 use Rattle.model.specs.FileCalls.{gaugeOf}
 use Rattle.model.specs.Report.{filmReport}
-use Rattle.model.proofs.File.{gauge-passes, gauge-shape}
+use Rattle.model.proofs.File.{gauge-passes, gauge-shape, stepped}
 use Rattle.model.proofs.Forming.{formed-accepted}
 use Rattle.grid.proofs.Limited.{size-low}
 use Rattle.text.specs.Writes.{Fits, Writes}
@@ -24,7 +24,7 @@ use Rattle.gauged_report.proofs.put_film.Statement.{statement}
 use Rattle.gauged_report.proofs.put_film.Tie as tie
 
 abbrev gauge : tie.Start → Gauge
-gauge s = gaugeOf (s .args .head) (now (s .args .weights)) (now (s .args .thicknesses)) (s .args .wedge)
+gauge s = gaugeOf (s .args .head) (now (s .args .weights)) (now (s .args .thicknesses)) (s .args .wedge) (s .args .steps)
 
 -- the start, from where the coefficients are formed, and from there on; and the forming, from where its buffers are back
 abbrev entry : tie.After-sources → tie.Start
@@ -47,13 +47,13 @@ abbrev film : tie.After-form → Film
 film f =
     let s = start f in
     let n = length (now (s .args .weights)) in
-    filmOf (s .args .head) (now (s .args .weights)) (take n (f .form .last .1 .1 .1 .0)) (take n (f .form .last .1 .1 .1 .1 .0)) (take n (f .form .last .1 .1 .1 .1 .1 .0))
-    (take n (f .form .last .1 .1 .1 .1 .1 .1 .0))
+    filmOf (s .args .head) (now (s .args .weights)) (take n (f .form .last .1 .1 .1 .1 .0)) (take n (f .form .last .1 .1 .1 .1 .1 .0)) (take n (f .form .last .1 .1 .1 .1 .1 .1 .0))
+    (take n (f .form .last .1 .1 .1 .1 .1 .1 .1 .0))
 
 film-is : (f : tie.After-form) → film f ≡ formed (gauge (start f))
 film-is f =
     let s = start f in
-    film-formed (s .args .head) (now (s .args .weights)) (now (s .args .thicknesses)) (s .args .wedge) (s .pre .0 .0 .weights-len) (rw (toZ-ofZ (s .fits .wedge)) at (f .form .ensures))
+    film-formed (s .args .head) (now (s .args .weights)) (now (s .args .thicknesses)) (s .args .wedge) (s .args .steps) (s .pre .0 .0 .weights-len) (rw (toZ-ofZ (s .fits .wedge)) at (f .form .ensures))
 
 slice-aggregate-form : tie.Need-slice-aggregate-form
 slice-aggregate-form c = search needs
@@ -70,16 +70,20 @@ slice-aggregate-form-4 c = search needs
 form-requires : tie.Need-form-requires
 form-requires c κs =
     let s = entry c in
-    let shape = gauge-shape (gauge s) (gauge-passes (gauge s) (s .pre .0 .1) .numbers .shape) in
+    let numbers = gauge-passes (gauge s) (s .pre .0 .1) .numbers in
+    let shape = gauge-shape (gauge s) (numbers .shape) in
     let n = low s in
     let v = s .pre .0 .0 in (
-      record {
-        rows-some = shape .rows-some;
-        rows-low = shape .rows-low;
-        columns-some = shape .columns-some;
-        columns-low = shape .columns-low;
-        thicknesses-len = v .thicknesses-len;
-      },
+      (
+        record {
+          rows-some = shape .rows-some;
+          rows-low = shape .rows-low;
+          columns-some = shape .columns-some;
+          columns-low = shape .columns-low;
+          thicknesses-len = v .thicknesses-len;
+        },
+        stepped (s .args .steps) _ (numbers .steps),
+      ),
       record {
         diagonals-room = omega (arith, v .weights-len);
         rights-room = omega (arith, v .weights-len);
@@ -89,28 +93,28 @@ form-requires c κs =
     )
 
 array-share-prefix-diagonals : tie.Need-array-share-prefix-diagonals
-array-share-prefix-diagonals c = let f = back c in omega (arith, low (start f), f .form .kept .1 .1 .1 .0)
+array-share-prefix-diagonals c = let f = back c in omega (arith, low (start f), f .form .kept .1 .1 .1 .1 .0)
 
 slice-aggregate-put-run : tie.Need-slice-aggregate-put-run
-slice-aggregate-put-run c = let f = back (c .before) in sym (length-take-le _ _ (omega (arith, low (start f), f .form .kept .1 .1 .1 .0)))
+slice-aggregate-put-run c = let f = back (c .before) in sym (length-take-le _ _ (omega (arith, low (start f), f .form .kept .1 .1 .1 .1 .0)))
 
 array-share-prefix-rights : tie.Need-array-share-prefix-rights
-array-share-prefix-rights c = let f = back (c .before) in omega (arith, low (start f), f .form .kept .1 .1 .1 .1 .0)
+array-share-prefix-rights c = let f = back (c .before) in omega (arith, low (start f), f .form .kept .1 .1 .1 .1 .1 .0)
 
 slice-aggregate-put-run-2 : tie.Need-slice-aggregate-put-run-2
-slice-aggregate-put-run-2 c = let f = back (c .before .before) in sym (length-take-le _ _ (omega (arith, low (start f), f .form .kept .1 .1 .1 .1 .0)))
+slice-aggregate-put-run-2 c = let f = back (c .before .before) in sym (length-take-le _ _ (omega (arith, low (start f), f .form .kept .1 .1 .1 .1 .1 .0)))
 
 array-share-prefix-ups : tie.Need-array-share-prefix-ups
-array-share-prefix-ups c = let f = back (c .before .before) in omega (arith, low (start f), f .form .kept .1 .1 .1 .1 .1 .0)
+array-share-prefix-ups c = let f = back (c .before .before) in omega (arith, low (start f), f .form .kept .1 .1 .1 .1 .1 .1 .0)
 
 slice-aggregate-put-run-3 : tie.Need-slice-aggregate-put-run-3
-slice-aggregate-put-run-3 c = let f = back (c .before .before .before) in sym (length-take-le _ _ (omega (arith, low (start f), f .form .kept .1 .1 .1 .1 .1 .0)))
+slice-aggregate-put-run-3 c = let f = back (c .before .before .before) in sym (length-take-le _ _ (omega (arith, low (start f), f .form .kept .1 .1 .1 .1 .1 .1 .0)))
 
 array-share-prefix-sources : tie.Need-array-share-prefix-sources
-array-share-prefix-sources c = let f = back (c .before .before .before) in omega (arith, low (start f), f .form .kept .1 .1 .1 .1 .1 .1 .0)
+array-share-prefix-sources c = let f = back (c .before .before .before) in omega (arith, low (start f), f .form .kept .1 .1 .1 .1 .1 .1 .1 .0)
 
 slice-aggregate-put-run-4 : tie.Need-slice-aggregate-put-run-4
-slice-aggregate-put-run-4 c = let f = back (c .before .before .before .before) in sym (length-take-le _ _ (omega (arith, low (start f), f .form .kept .1 .1 .1 .1 .1 .1 .0)))
+slice-aggregate-put-run-4 c = let f = back (c .before .before .before .before) in sym (length-take-le _ _ (omega (arith, low (start f), f .form .kept .1 .1 .1 .1 .1 .1 .1 .0)))
 
 array-borrow-prefix-field : tie.Need-array-borrow-prefix-field
 array-borrow-prefix-field c = omega (arith, low (start (back (c .before .before .before .before))))

@@ -39,7 +39,7 @@ bytes r = record { byte = λ i. r .before .before .before .before .shared-slice-
 
 -- the numbers that were read
 abbrev gauge : tie.After-head → Gauge
-gauge h = used (h .head .given .0 .0) (h .head .given .0 .1 .0) (read h .read .last .1 .0) (read h .read .last .1 .1 .0)
+gauge h = used (h .head .given .0 .0) (h .head .given .0 .1 .0) (h .head .given .0 .1 .1 .0) (read h .read .last .1 .0) (read h .read .last .1 .1 .0)
 
 has : (h : tie.After-head) → Read (now (start (read h) .args .file)) (gauge h)
 has h =
@@ -67,10 +67,10 @@ found c = area c .before .before
 
 -- the buffers' starts hold them
 same : (c : tie.After-ring) → let h = found c in
-    gaugeOf (h .head .given .0 .0) (take (area c .area .result) (read h .read .last .1 .0)) (take (c .ring .result) (read h .read .last .1 .1 .0)) (toZ w32 (ofZ w32 (h .head .given .0 .1 .0))) ≡ gauge h
+    gaugeOf (h .head .given .0 .0) (take (area c .area .result) (read h .read .last .1 .0)) (take (c .ring .result) (read h .read .last .1 .1 .0)) (toZ w32 (ofZ w32 (h .head .given .0 .1 .0))) (h .head .given .0 .1 .1 .0) ≡ gauge h
 same c =
     let h = found c in
-    λ k. gaugeOf (h .head .given .0 .0) (take ((area c .area .ensures) k) (read h .read .last .1 .0)) (take ((c .ring .ensures) k) (read h .read .last .1 .1 .0)) ((slope (area c .before)) k)
+    λ k. gaugeOf (h .head .given .0 .0) (take ((area c .area .ensures) k) (read h .read .last .1 .0)) (take ((c .ring .ensures) k) (read h .read .last .1 .1 .0)) ((slope (area c .before)) k) (h .head .given .0 .1 .1 .0)
 
 weights-room : (c : tie.After-ring) → area c .area .result ≤ length (read (found c) .read .last .1 .0)
 weights-room c =
@@ -138,8 +138,8 @@ returns c =
     let a = p .before .before .before .before in
     let h = found a in
     let s = start (read h) in
-    subst (λ (l : List ℕ). Writes l (now (s .args .out)) 0 (p .put-film .last .1 .1 .1 .1 .0) (p .put-film .result)) (sym (has h .text))
-    (subst (λ (g : Gauge). Writes (filmReport (formed g)) (now (s .args .out)) 0 (p .put-film .last .1 .1 .1 .1 .0) (p .put-film .result)) (same a) (p .put-film .ensures))
+    subst (λ (l : List ℕ). Writes l (now (s .args .out)) 0 (p .put-film .last .1 .1 .1 .1 .1 .0) (p .put-film .result)) (sym (has h .text))
+    (subst (λ (g : Gauge). Writes (filmReport (formed g)) (now (s .args .out)) 0 (p .put-film .last .1 .1 .1 .1 .1 .0) (p .put-film .result)) (same a) (p .put-film .ensures))
 
 same-length-2 : tie.Need-same-length-2
 same-length-2 c = search needs

@@ -11,7 +11,7 @@ use mir.Facts.{toZ-ofZ}
 use Rattle.model.specs.Limits.{sideLimit}
 use Rattle.model.specs.Lists.{tabulate}
 use Rattle.model.specs.Refusals.{checkOf}
-use Rattle.model.specs.Gauge.{Gauge}
+use Rattle.model.specs.Gauge.{Gauge, factorsOf}
 use Rattle.model.specs.Bytes.{byteAt, signedOf}
 use Rattle.model.specs.File.{thicknessesOffset, cellsIn, ringIn, gaugeIn, gaugeDominance}
 use Rattle.model.specs.FileCalls.{gaugeOf}
@@ -52,7 +52,7 @@ long-enough c = omega (arith, whole (begun (c .before .before)) .long, cells-are
 
 -- the steps before all numbers are decoded
 abbrev wordsRead : tie.After-signed → tie.After-weights-in
-wordsRead c = c .before .before .before
+wordsRead c = c .before .before .before .before
 
 abbrev ringKnown : tie.After-signed → tie.After-ring
 ringKnown c = wordsRead c .before .before
@@ -77,6 +77,7 @@ film c =
     gaugeOf (headRead c .head-in .result) (take n (wordsRead c .weights-in .last .1 .1 .0))
     (tabulate (ringKnown c .ring .result) (λ j. byteAt (now (start c .args .file)) (thicknessesOffset n + j)))
     (c .signed .result)
+    (c .before .before .steps-in .result)
 
 words-len : (c : tie.After-signed) → length (film c .weights) ≡ cellsKnown c .area .result
 words-len c = length-take-le _ _ (words-room c)
@@ -90,6 +91,7 @@ same c =
     (wordsRead c .weights-in .ensures)
     refl
     (c .signed .ensures ∙ ap signedOf (c .before .long-at .ensures))
+    (c .before .before .steps-in .ensures)
 
 -- the part of the file that is tested and copied has its thicknesses
 within : (c : tie.After-signed) → 15 + 2 * cellsKnown c .area .result + 3 + ringKnown c .ring .result ≤ length (now (start c .args .file))
@@ -141,11 +143,20 @@ weights-in-requires c κs =
     let h = few (c .before .before) in
     (h, h, omega (arith, long-enough (c .before)))
 
+add-steps-in : tie.Need-add-steps-in
+add-steps-in c = omega (arith, few (c .before .before .before .before), some (c .before .before .before))
+
+add-steps-in-2 : tie.Need-add-steps-in-2
+add-steps-in-2 c = omega (arith, few (c .before .before .before .before), some (c .before .before .before))
+
+steps-in-requires : tie.Need-steps-in-requires
+steps-in-requires c κs = omega (arith, few (c .before .before .before .before), some (c .before .before .before))
+
 add-long-at : tie.Need-add-long-at
-add-long-at c = omega (arith, few (c .before .before .before .before), some (c .before .before .before))
+add-long-at c = omega (arith, few (c .before .before .before .before .before), some (c .before .before .before .before))
 
 long-at-requires : tie.Need-long-at-requires
-long-at-requires c κs = omega (arith, few (c .before .before .before .before), some (c .before .before .before))
+long-at-requires c κs = omega (arith, few (c .before .before .before .before .before), some (c .before .before .before .before))
 
 signed-requires : tie.Need-signed-requires
 signed-requires c κs = search needs
@@ -178,6 +189,7 @@ dominance-test-requires c κs =
         thicknesses-len = ap length (part x) ∙ bytes-len x ∙ ringKnown x .ring .ensures;
       },
       words-len x ∙ cellsKnown x .area .ensures,
+      rw (ap (λ (g : Gauge). factorsOf (g .steps)) (same x)) (w .steps),
     )
 
 enum-told : tie.Need-enum-told
@@ -246,6 +258,9 @@ read-fields-spec =
     add-end
     slice-aggregate-weights-in
     weights-in-requires
+    add-steps-in
+    add-steps-in-2
+    steps-in-requires
     add-long-at
     long-at-requires
     signed-requires

@@ -4,7 +4,8 @@ use native.Mathlib.Omega.{arith}
 use borrow.Author.Needs.{needs}
 use denote.Ref.{now}
 use lib.IntN.{pos}
-use Rattle.model.specs.Gauge.{Gauge}
+use Rattle.model.specs.Gauge.{Gauge, byFactors, Stepped}
+use Rattle.model.specs.declared.Factors.{Factors}
 use Rattle.model.specs.Coefficients.{formed}
 use Rattle.model.specs.FileCalls.{gaugeOf}
 use Rattle.model.proofs.Sides.{Inside, row-sum}
@@ -13,16 +14,23 @@ use Rattle.stencil.proofs.Fits.{link-low}
 use Rattle.row_sums.proofs.not_dominant.Statement.{statement}
 use Rattle.row_sums.proofs.not_dominant.Tie as tie
 
--- no link is above 510³
+-- the factors, and that they are within their limits
+abbrev f : tie.After-links-of → Factors
+f c = c .before .before .before .before .args .factors
+
+steps : (c : tie.After-links-of) → Stepped (f c)
+steps c = c .before .before .before .before .pre .0 .2
+
+-- no link is above 4 × 510³
 links-low : (c : tie.After-links-of) → let k = c .links-of .result in
-    (k .left ≤ 2 ^ 27) × (k .right ≤ 2 ^ 27) × (k .down ≤ 2 ^ 27) × (k .up ≤ 2 ^ 27)
+    (k .left ≤ 2 ^ 29) × (k .right ≤ 2 ^ 29) × (k .down ≤ 2 ^ 29) × (k .up ≤ 2 ^ 29)
 links-low c =
     let a = c .before .around-at .result in
     rw (c .links-of .ensures) (
-      omega (arith, link-low (a .own) (a .left) (omega arith) (omega arith)),
-      omega (arith, link-low (a .own) (a .right) (omega arith) (omega arith)),
-      omega (arith, link-low (a .own) (a .down) (omega arith) (omega arith)),
-      omega (arith, link-low (a .own) (a .up) (omega arith) (omega arith)),
+      omega (arith, link-low (a .own) (a .left) (omega arith) (omega arith) (f c .along) (steps c .along-low)),
+      omega (arith, link-low (a .own) (a .right) (omega arith) (omega arith) (f c .along) (steps c .along-low)),
+      omega (arith, link-low (a .own) (a .down) (omega arith) (omega arith) (f c .across) (steps c .across-low)),
+      omega (arith, link-low (a .own) (a .up) (omega arith) (omega arith) (f c .across) (steps c .across-low)),
     )
 
 around-at-requires : tie.Need-around-at-requires
@@ -47,7 +55,7 @@ returns c =
     let p = c .before .before in
     let k = p .before in
     let s = k .before .before .before .before in
-    let g : Gauge = gaugeOf (s .args .head) (now (s .args .weights)) (now (s .args .thicknesses)) (pos 0) in
+    let g : Gauge = gaugeOf (s .args .head) (now (s .args .weights)) (now (s .args .thicknesses)) (pos 0) (byFactors (s .args .factors)) in
     let w : Inside (formed g) (s .args .row) (s .args .column) = omega (arith, s .pre .1) in
     rw (c .product .ensures, c .before .weight-at .ensures, p .pull .ensures, k .links-of .ensures, k .before .around-at .ensures)
     (row-sum (formed g) w (formed-diagonal g (s .args .row) (s .args .column) w) (formed-linked g (s .args .row) (s .args .column) w))

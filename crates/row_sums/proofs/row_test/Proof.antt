@@ -3,6 +3,7 @@ use Prim.Native.Nat.{_+_, _-_, _*_}
 use native.Mathlib.Omega.{arith}
 use borrow.Author.Needs.{needs}
 use lib.IntN.{pos}
+use Rattle.model.specs.Gauge.{byFactors}
 use Rattle.model.specs.Coefficients.{formed}
 use Rattle.model.specs.Checks.{notDominant}
 use Rattle.model.specs.FileCalls.{gaugeOf}
@@ -12,11 +13,11 @@ use Rattle.row_sums.proofs.row_test.Statement.{statement}
 use Rattle.row_sums.proofs.row_test.Tie as tie
 
 abbrev Inv-loop : tie.InvT-loop
-Inv-loop head weights thicknesses row columns i₀ i =
-    Searched (notDominant (formed (gaugeOf head weights thicknesses (pos 0)))) (row * head .columns) ((row - 1) * head .columns + i)
+Inv-loop head weights thicknesses factors row columns i₀ i =
+    Searched (notDominant (formed (gaugeOf head weights thicknesses (pos 0) (byFactors factors)))) (row * head .columns) ((row - 1) * head .columns + i)
 
 abbrev μ-loop : tie.MeasureT-loop
-μ-loop head weights thicknesses row columns i₀ i = columns - i
+μ-loop head weights thicknesses factors row columns i₀ i = columns - i
 
 cast-columns : tie.Need-cast-columns Inv-loop μ-loop
 cast-columns c = search needs

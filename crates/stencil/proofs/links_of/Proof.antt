@@ -1,4 +1,4 @@
--- `stencil::links_of` meets its contract: each link is at most the cube of 510 (`link-low`), so that the sum of the four fits 32 bits.
+-- `stencil::links_of` meets its contract: each link is at most four times the cube of 510 (`link-low`), so that the sum of the four fits 32 bits.
 use Prim.Native.Nat.{_+_, _*_, _≤_}
 use native.Mathlib.Omega.{arith}
 use borrow.Author.Needs.{needs}
@@ -8,19 +8,21 @@ use Rattle.stencil.proofs.links_of.Tie as tie
 
 -- the four links leave their sum room
 sums : (c : tie.After-link4)
-    → c .before .before .before .link .result + c .before .before .link2 .result + c .before .link3 .result + c .link4 .result ≤ 4 * 132651000
+    → c .before .before .before .link .result + c .before .before .link2 .result + c .before .link3 .result + c .link4 .result ≤ 16 * 132651000
 sums c =
-    let a = c .before .before .before .before .args .around in
+    let s = c .before .before .before .before in
+    let a = s .args .around in
+    let f = s .args .factors in
     omega (
       arith,
       c .before .before .before .link .ensures,
       c .before .before .link2 .ensures,
       c .before .link3 .ensures,
       c .link4 .ensures,
-      link-low (a .own) (a .left) (omega arith) (omega arith),
-      link-low (a .own) (a .right) (omega arith) (omega arith),
-      link-low (a .own) (a .down) (omega arith) (omega arith),
-      link-low (a .own) (a .up) (omega arith) (omega arith),
+      link-low (a .own) (a .left) (omega arith) (omega arith) (f .along) (s .pre .along-low),
+      link-low (a .own) (a .right) (omega arith) (omega arith) (f .along) (s .pre .along-low),
+      link-low (a .own) (a .down) (omega arith) (omega arith) (f .across) (s .pre .across-low),
+      link-low (a .own) (a .up) (omega arith) (omega arith) (f .across) (s .pre .across-low),
     )
 
 link-requires : tie.Need-link-requires
@@ -35,14 +37,14 @@ link-requires-3 c κs = search needs
 link-requires-4 : tie.Need-link-requires-4
 link-requires-4 c κs = search needs
 
-add-t6 : tie.Need-add-t6
-add-t6 c = let b = sums c in record { fits = omega arith }
-
 add-t7 : tie.Need-add-t7
 add-t7 c = let b = sums c in record { fits = omega arith }
 
 add-t8 : tie.Need-add-t8
 add-t8 c = let b = sums c in record { fits = omega arith }
+
+add-t9 : tie.Need-add-t9
+add-t9 c = let b = sums c in record { fits = omega arith }
 
 returns : tie.Need-returns
 returns c =
@@ -56,7 +58,7 @@ links-of-spec =
     link-requires-2
     link-requires-3
     link-requires-4
-    add-t6
     add-t7
     add-t8
+    add-t9
     returns)

@@ -25,7 +25,7 @@ returns c =
     let walked = w .walk .ensures in
     joined {x = checkOf (w .walk .result .tested)} (c .or-else .ensures) refl (c .before .fail-if .ensures)
     ∙ orElse-given (checkOf (w .walk .result .tested)) (λ p. ap (unexpectedAt (now (a .file))) (walked .comes p))
-    ∙ ap (λ x. x orElse unexpectedAt (now (a .file)) (fieldsEnd (kindOf (a .last) (a .n) (a .t)) 0)) (walked .finds)
+    ∙ ap (λ x. x orElse unexpectedAt (now (a .file)) (fieldsEnd (kindOf (a .last) (a .n) (a .t) (now (a .file))) 0)) (walked .finds)
 
 pub fields-test-spec : {M : Type 1} → statement M
 fields-test-spec = tie.close (tie.spec walk-requires fail-if-requires or-else-requires returns)

@@ -9,7 +9,7 @@ use Rattle.model.proofs.Checks.{or-parts}
 use Rattle.writing.specs.Writable.{fileLength}
 use Rattle.model.proofs.Sides.{cells-low}
 use Rattle.forming.proofs.Cell.{ring-low}
-use Rattle.writing.proofs.Film.{length-sum}
+use Rattle.writing.proofs.Film.{steps-few, length-sum}
 use borrow.Author.Needs.{needs}
 use Rattle.writing.proofs.file_length.Statement.{statement}
 use Rattle.writing.proofs.file_length.Tie as tie
@@ -41,8 +41,19 @@ add-result-2 c =
     let l = low (c .before .before) in
     omega (arith, cells-low _ _ (l .0) (l .1), ring-low _ _ (l .0) (l .1), c .before .area .ensures, c .ring .ensures)
 
+steps-length-requires : tie.Need-steps-length-requires
+steps-length-requires c κs = search needs
+
+add-result-3 : tie.Need-add-result-3
+add-result-3 c =
+    let l = low (c .before .before .before) in
+    let s = c .before .before .before .before .args .steps in
+    omega (arith, cells-low _ _ (l .0) (l .1), ring-low _ _ (l .0) (l .1), c .before .before .area .ensures, c .before .ring .ensures, c .steps-length .ensures, steps-few s)
+
 returns-2 : tie.Need-returns-2
-returns-2 c = let l = low (c .before .before) in rw (c .before .area .ensures, c .ring .ensures) (sym (length-sum _ _ (l .0) (l .1)))
+returns-2 c =
+    let l = low (c .before .before .before) in
+    rw (c .before .before .area .ensures, c .before .ring .ensures, c .steps-length .ensures) (sym (length-sum _ _ (c .before .before .before .before .args .steps) (l .0) (l .1)))
 
 pub file-length-spec : {M : Type 1} → statement M
 file-length-spec =
@@ -54,4 +65,6 @@ file-length-spec =
     add-result
     ring-requires
     add-result-2
+    steps-length-requires
+    add-result-3
     returns-2)

@@ -1,4 +1,4 @@
--- `writing::put_film` meets its contract: five fields, each behind the one before, fill the slice (`film-put`).
+-- `writing::put_film` meets its contract: five fields, each behind the one before, and then the steps, fill the slice (`film-put`).
 use mathlib.Core.Path.{_≡_, _∙_, ap}
 use native.Mathlib.Omega.{arith}
 use denote.Ref.{now}
@@ -32,7 +32,7 @@ start c = shapePut c .before .before .before .before .before
 abbrev film : tie.After-put-number2 → Gauge
 film c =
     let a = start c .args in
-    gaugeOf (a .head) (now (a .weights)) (now (a .thicknesses)) (a .wedge)
+    gaugeOf (a .head) (now (a .weights)) (now (a .thicknesses)) (a .wedge) (a .steps)
 
 -- the wedge number's bits
 wedge-bits : (c : tie.After-put-number2) → c .before .unsigned .result ≡ unsignedOf (film c .wedge)
@@ -79,16 +79,45 @@ unsigned-requires c κs = search needs
 put-number-requires-2 : tie.Need-put-number-requires-2
 put-number-requires-2 c κs = search needs
 
+add-put-steps : tie.Need-add-put-steps
+add-put-steps c = search needs
+
+add-put-steps-2 : tie.Need-add-put-steps-2
+add-put-steps-2 c = search needs
+
+add-put-steps-3 : tie.Need-add-put-steps-3
+add-put-steps-3 c = search needs
+
+put-steps-requires : tie.Need-put-steps-requires
+put-steps-requires c κs =
+    let x = c .before .before .before in
+    let R = start x .pre in (
+      omega (
+        arith,
+        R .out-len,
+        R .weights-len,
+        R .thicknesses-len,
+        x .put-number2 .kept .0,
+        thicknessesPut x .put-thicknesses .kept .0,
+        weightsPut x .put-weights .kept .0,
+        ceilingPut x .put-number .kept .0,
+        shapePut x .put-shape .kept .0,
+      ),
+      R .steps-low,
+    )
+
 same-length : tie.Need-same-length
 same-length c = search needs
 
 returns : tie.Need-returns
 returns c =
-    let x = c .before .before in
+    let y = c .before .before in
+    let x = y .before .before .before .before in
     film-put (film x) (now (start x .args .out)) (start x .pre) (shapePut x .put-shape .ensures) (ceilingPut x .put-number .ensures)
     (weightsPut x .put-weights .ensures)
     (thicknessesPut x .put-thicknesses .ensures)
     (rw (wedge-bits x) at (x .put-number2 .ensures))
+    (y .put-steps .ensures)
 
 pub put-film-spec : {M : Type 1} → statement M
 put-film-spec =
@@ -104,5 +133,9 @@ put-film-spec =
     add-put-number-2
     unsigned-requires
     put-number-requires-2
+    add-put-steps
+    add-put-steps-2
+    add-put-steps-3
+    put-steps-requires
     same-length
     returns)

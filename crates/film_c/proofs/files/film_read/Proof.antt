@@ -17,7 +17,7 @@ same-length-2 : tie.Need-same-length-2
 same-length-2 c = search needs
 
 returns : tie.Need-returns
-returns c = read-told (c .before .before .before .before .before .before .before .before .read .ensures) (c .read2 .ensures)
+returns c = read-told (c .before .before .before .before .before .before .before .before .before .read .ensures) (c .read2 .ensures)
 
 pub film-read-spec : {M : Type 1} → statement M
 film-read-spec = tie.close (tie.spec read-requires read-requires-2 same-length same-length-2 returns)

@@ -1,4 +1,4 @@
--- `film_c::film_write` meets its contract: the public call promises its answer for the head that `head_of` makes, and `tell_files::write` tells it.
+-- `film_c::film_write` meets its contract: the public call promises its answer for the head and the steps that `head_of` and `steps_of` make, and `tell_files::write` tells it.
 use mir.Facts.{toZ-ofZ}
 use borrow.Author.Needs.{needs}
 use denote.Ref.{now}
@@ -8,6 +8,9 @@ use Rattle.film_c.proofs.files.film_write.Tie as tie
 
 head-of-requires : tie.Need-head-of-requires
 head-of-requires c κs = search needs
+
+steps-of-requires : tie.Need-steps-of-requires
+steps-of-requires c κs = search needs
 
 write-requires : tie.Need-write-requires
 write-requires c κs = search needs
@@ -21,11 +24,12 @@ same-length c = search needs
 returns : tie.Need-returns
 returns c =
     let called = c .before .before .before .before in
-    let made = called .before .before in
+    let grid = called .before .before in
+    let made = grid .before in
     let s = made .before .before .before .before in
     let a = s .args in
-    let saved = save-by-wedge (made .head-of .result) (now (a .weights)) (now (a .thicknesses)) (now (a .out)) (toZ-ofZ (s .fits .wedge)) (called .write .ensures) in
-    leaves (rw (made .head-of .ensures) at saved) (c .write2 .ensures)
+    let saved = save-by-wedge (made .head-of .result) (now (a .weights)) (now (a .thicknesses)) (grid .steps-of .result) (now (a .out)) (toZ-ofZ (s .fits .wedge)) (called .write .ensures) in
+    leaves (rw (made .head-of .ensures, grid .steps-of .ensures) at saved) (c .write2 .ensures)
 
 pub film-write-spec : {M : Type 1} → statement M
-film-write-spec = tie.close (tie.spec head-of-requires write-requires write-requires-2 same-length returns)
+film-write-spec = tie.close (tie.spec head-of-requires steps-of-requires write-requires write-requires-2 same-length returns)

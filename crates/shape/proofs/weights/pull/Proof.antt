@@ -1,4 +1,4 @@
--- `shape::weights::pull` meets its contract: a weight beside the cell counts just if it is inside the grid, and links up to 2 ^ 27 leave the sum room (`sums`).
+-- `shape::weights::pull` meets its contract: a weight beside the cell counts just if it is inside the grid, and links up to 2 ^ 29 leave the sum room (`sums`).
 use mathlib.Core.Path.{_≡_, ap, _∙_}
 use mathlib.Core.Bool.{true, cond}
 use mathlib.Core.List.{List, []}
@@ -9,11 +9,10 @@ use borrow.Author.Needs.{needs}
 use borrow.Author.Tests.{ltb-true, lt-ltb}
 use denote.Ref.{now}
 use lib.Dec.{ltb}
-use lib.IntN.{pos}
 use lib.ListN.{getD}
 use Rattle.model.specs.Gauge.{Gauge}
 use Rattle.model.specs.Reynolds.{pressureAt}
-use Rattle.model.specs.FileCalls.{gaugeOf}
+use Rattle.model.specs.FileCalls.{bareOf}
 use Rattle.model.proofs.Sides.{Cell, index, row-end, index-low, left-index, right-index, down-index, up-index, number-if}
 use Rattle.shape.proofs.weights.pull.Statement.{statement}
 use Rattle.shape.proofs.weights.pull.Tie as tie
@@ -48,12 +47,12 @@ module _ (g : Gauge) (p : List ℕ) {r c i : ℕ} (w : Cell (g .rows) (g .column
   up-number : cond (ltb r (g .rows)) (getD p (i + g .columns) 0) 0 ≡ pressureAt g p (r + 1) c
   up-number = number-if g p (ltb r (g .rows)) (omega (arith, ltb-true, lt-ltb)) (λ v. ap (λ (k : ℕ). k + g .columns) e ∙ up-index w)
 
--- links of 27 bits leave room for the sum of all four products
-pulled : {x k w : ℕ} → x ≡ k * w → k ≤ 2 ^ 27 → w ≤ 2 ^ 32 → x ≤ 2 ^ 59
+-- links up to 2 ^ 29 leave room for the sum of all four products
+pulled : {x k w : ℕ} → x ≡ k * w → k ≤ 2 ^ 29 → w ≤ 2 ^ 32 → x ≤ 2 ^ 61
 pulled e h l = omega (arith, e, mul-le-mul h l)
 
 sums : (c : tie.After-product4) → let d = c .before .before in let r = d .before .before in let l = r .before .before in
-    l .product .result + r .product2 .result + (d .product3 .result + c .product4 .result) ≤ 2 ^ 61
+    l .product .result + r .product2 .result + (d .product3 .result + c .product4 .result) ≤ 2 ^ 63
 sums c =
     let d = c .before .before in
     let r = d .before .before in
@@ -69,7 +68,7 @@ sums c =
 
 -- the film's grid and the cell
 abbrev grid : tie.Start → Gauge
-grid s = gaugeOf (s .args .head) [] [] (pos 0)
+grid s = bareOf (s .args .head) []
 
 inside : (s : tie.Start) → Cell (s .args .head .rows) (s .args .head .columns) (s .args .row) (s .args .column)
 inside s = omega (arith, s .pre .1 .0)

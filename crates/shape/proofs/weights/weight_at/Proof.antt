@@ -3,8 +3,7 @@ use mathlib.Core.List.{[]}
 use native.Mathlib.Omega.{arith}
 use borrow.Author.Needs.{needs}
 use denote.Ref.{now}
-use lib.IntN.{pos}
-use Rattle.model.specs.FileCalls.{gaugeOf}
+use Rattle.model.specs.FileCalls.{bareOf}
 use Rattle.model.proofs.Sides.{Cell, number-at}
 use Rattle.shape.proofs.weights.weight_at.Statement.{statement}
 use Rattle.shape.proofs.weights.weight_at.Tie as tie
@@ -26,7 +25,7 @@ returns c =
     let s = c .before .before .before in
     let a = s .args in
     let w : Cell (a .head .rows) (a .head .columns) (a .row) (a .column) = omega (arith, s .pre .1) in
-    number-at (gaugeOf (a .head) [] [] (pos 0)) (now (a .weights)) w (c .before .index-of .ensures .0)
+    number-at (bareOf (a .head) []) (now (a .weights)) w (c .before .index-of .ensures .0)
 
 pub weight-at-spec : {M : Type 1} → statement M
 weight-at-spec = tie.close (tie.spec index-of-requires mul-result shared-slice-read-result cast-result returns)
