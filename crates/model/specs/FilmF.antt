@@ -164,8 +164,8 @@ steppedF grid =
 abbrev pub stepsOn : ℕ → ℕ → Steps
 stepsOn along across = steps.Given (record { along = along; across = across })
 
--- Links within the row are 125 and 27 along, times 2, those to the ring rows 27 and 8, times 3; the right end's link is 8. Then files that differ: the
--- tag is looked at before the header, 15 stands before stray, and what was given as 1 1 is written so.
+-- Its coefficients: links within the row are 125, 27 and 8, times 2, those to the ring rows 27 of the first cell and 8 of the second, times 3. Its file, and
+-- files that differ: the tag is looked at before the header, 15 stands before stray, and what was given as 1 1 is written so.
 pub record StepEdges : Type 0 where
   pub diagonals : formed (steppedF (stepsOn 2 3)) .diagonals ≡ 466 ∷ 118 ∷ []
   pub links : formed (steppedF (stepsOn 2 3)) .rights ≡ 54 ∷ 0 ∷ []

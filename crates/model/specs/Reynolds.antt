@@ -8,8 +8,8 @@
 --
 -- With grid steps Δx along the rows and Δy across them, the difference of flux along is divided by Δx² and that across by Δy². The whole is taken
 -- S² times, for some length S, so that the two factors are whole numbers: along is S² / Δx² and across S² / Δy². So along / across is the squared ratio
--- of steps, (Δy / Δx)²: a pad gauged at half as fine a step across has along 4 and across 1, equal steps have 1 and 1. What S² and Δx make of
--- the wedge term is in the wedge number.
+-- of steps, (Δy / Δx)²: a pad gauged at twice as coarse a step across has along 4 and across 1, equal steps have 1 and 1. The wedge term, by S² / Δx,
+-- has that in the wedge number.
 use mathlib.Core.Bool.{Bool, cond, _&&_}
 use mathlib.Core.List.{List}
 use Prim.Native.Nat.{ℕ, _+_, _-_, _*_}
