@@ -1,5 +1,5 @@
-// The converter (document 02, W1): from a gauged film's numbers to the bytes of the coefficient film of the same problem; grid steps are worked into the links. It asks nothing of
-// its caller: it tests its input first, as the call that forms coefficients does, and a refused call changes nothing.
+// The converter (document 02, W1): from a gauged film's numbers to the bytes of the coefficient film of the same problem; grid steps are worked into the
+// links. It asks nothing of its caller: it tests its input first, as the call that forms coefficients does, and a refused call changes nothing.
 //
 // Proved: the whole answer, and the lent slice, are those of crate `model` (convertCall). Its proofs/CoefficientFile: these bytes read as the film
 // that forming gives (`converted-reads`).

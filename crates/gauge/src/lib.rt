@@ -1,5 +1,5 @@
-// The tests of a film's numbers as document 01's film file has them, thicknesses, wedge and grid steps: refusals 4, 10, 5, 6, 7, 8,
-// 15 and 9, in this order. Internal: the calls that form coefficients, write files and convert begin with it.
+// The tests of a film's numbers as a gauged film's file has them, thicknesses, wedge and grid steps: refusals 4, 10, 5, 6, 7, 8, 15 and 9, in
+// this order. Internal: the calls that form coefficients, write files and convert begin with it.
 //
 // Proved: what each test finds, read as the model's check by `checkOf`, equals the check that crate `model` defines. `gauge_tests` asks
 // nothing of its caller. A refusal's place is the number's place in the film file; that of 9 is the cell, and that of 10 is 0.

@@ -1,6 +1,7 @@
 -- Reading and writing film files are inverse (document 01, "The film file").
 --
--- The file of a film is its five fields, one after another; that lists of fields are written and walked alike is in `Fields`.
+-- The file of a film is its five fields, one after another, and field 0A where the film has it; that lists of fields are written and walked alike is in
+-- `Fields`, that optional ones are found where they were written in `Optional`.
 --   What is written reads back: each field stands at its offset, so that its tests pass and its numbers are read.
 --   What was read is written back: a walk that passes means that the bytes are the fields, and each body is what the writer makes of the
 --   numbers read from it (`bodies-in`).

@@ -26,6 +26,7 @@ abbrev pub factorsOf : Steps → Factors
 factorsOf steps.Absent = record { along = 1; across = 1 }
 factorsOf (steps.Given f) = f
 
+-- a film's steps, where it has a field with these factors
 abbrev pub byFactors : Factors → Steps
 byFactors f = steps.Given f
 

@@ -1,7 +1,7 @@
 -- A cell's coefficients fit their types.
-use mathlib.Core.Path.{_≡_, _∙_}
+use mathlib.Core.Path.{_≡_, sym, ap, _∙_}
 use Prim.Native.Nat.{ℕ, _+_, _*_, _≤_, _<_, _^_}
-use native.Mathlib.Nat.{mul-le-mul}
+use native.Mathlib.Nat.{mul-le-mul, one-mul}
 use native.Mathlib.Omega.{arith}
 use lib.IntN.{ℤ, pos, negsuc, natAbs, _-ℤ_}
 use lib.Signed.{mag}
@@ -11,7 +11,9 @@ use mir.Facts.{toZ-ofZ, sfits-widen}
 use Rattle.model.specs.Limits.{stepLimit}
 use Rattle.model.specs.Coefficients.{linkOf}
 use Rattle.model.proofs.Forming.{abs-mul, abs-sub}
-use Rattle.stencil.specs.Cell.{sourceOf}
+use Rattle.model.specs.declared.Factors.{Factors}
+use Rattle.stencil.specs.declared.Around.{Around}
+use Rattle.stencil.specs.Cell.{linksBy, linksOf, sourceOf}
 
 -- ---- a wedge number, cast from 32 bits to 64, stays as it is
 
@@ -24,7 +26,14 @@ module _ {z : ℤ} (fits : SFits w32 z) where
 
 -- ---- of thicknesses of 8 bits
 
--- the square and the cube of the sum of two
+abbrev cubed : ℕ → ℕ → ℕ
+cubed a b = (a + b) * (a + b) * (a + b)
+
+-- a factor times a cube
+pub scaled-low : {f k low : ℕ} → f ≤ stepLimit → k ≤ low → f * k ≤ stepLimit * low
+scaled-low h l = mul-le-mul h l
+
+-- the square and the cube of the sum of two, and that times a factor
 module _ (a b : ℕ) (h : a < 256) (k : b < 256) where
   sum-low : a + b ≤ 510
   sum-low = omega arith
@@ -35,9 +44,17 @@ module _ (a b : ℕ) (h : a < 256) (k : b < 256) where
   pub cube-low : (a + b) * (a + b) * (a + b) ≤ 510 * 510 * 510
   cube-low = mul-le-mul square-low sum-low
 
-  -- and that times a factor
   pub link-low : (f : ℕ) → f ≤ stepLimit → linkOf f a b ≤ stepLimit * (510 * 510 * 510)
-  link-low f l = mul-le-mul l cube-low
+  link-low f l = scaled-low l cube-low
+
+-- with factors 1 and 1 the links are the cubes
+pub plain-links : (a : Around) (f : Factors) → f .along ≡ 1 → f .across ≡ 1
+    → linksBy (cubed (a .own) (a .left)) (cubed (a .own) (a .right)) (cubed (a .own) (a .down)) (cubed (a .own) (a .up)) ≡ linksOf a f
+plain-links a f along across =
+    λ k. linksBy (one along (a .left) k) (one along (a .right) k) (one across (a .down) k) (one across (a .up) k)
+  where
+    one : {f : ℕ} → f ≡ 1 → (b : ℕ) → cubed (a .own) b ≡ linkOf f (a .own) b
+    one e b = sym (one-mul (cubed (a .own) b)) ∙ ap (λ t. t * cubed (a .own) b) (sym e)
 
 -- the source, with a wedge number of 32 bits
 mag-low : (z : ℤ) → mag z ≤ natAbs z

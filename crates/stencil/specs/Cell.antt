@@ -13,17 +13,13 @@ abbrev pub sourceOf : ℤ → ℕ → ℕ → ℤ
 sourceOf wedge next last = wedge *ℤ (pos next -ℤ pos last)
 
 -- the four links, and their sum
+abbrev pub linksBy : ℕ → ℕ → ℕ → ℕ → Links
+linksBy left right down up = record { left = left; right = right; down = down; up = up; sum = left + right + down + up }
+
 abbrev pub linksOf : Around → Factors → Links
 linksOf a f =
-    record {
-      left = linkOf (f .along) (a .own) (a .left);
-      right = linkOf (f .along) (a .own) (a .right);
-      down = linkOf (f .across) (a .own) (a .down);
-      up = linkOf (f .across) (a .own) (a .up);
-      sum =
-          linkOf (f .along) (a .own) (a .left) + linkOf (f .along) (a .own) (a .right) + linkOf (f .across) (a .own) (a .down)
-          + linkOf (f .across) (a .own) (a .up);
-    }
+    linksBy (linkOf (f .along) (a .own) (a .left)) (linkOf (f .along) (a .own) (a .right)) (linkOf (f .across) (a .own) (a .down))
+    (linkOf (f .across) (a .own) (a .up))
 
 -- a link is counted if it stays in the grid
 abbrev pub coefficientsOf : Around → Factors → ℤ → Bool → Bool → Coefficients

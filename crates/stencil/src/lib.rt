@@ -5,10 +5,9 @@
 // with factors within their limits.
 ghost use mathlib.Core.Path.{_≡_};
 ghost use mathlib.Core.Bool.{cond};
-ghost use Prim.Native.Nat.{_≤_};
+ghost use Prim.Native.Nat.{_+_, _*_, _≤_};
 ghost use Rattle.model.specs.Gauge.{factorsOf, Stepped};
-ghost use Rattle.model.specs.Coefficients.{linkOf};
-ghost use Rattle.stencil.specs.Cell.{linksOf, sourceOf, coefficientsOf};
+ghost use Rattle.stencil.specs.Cell.{linksBy, linksOf, sourceOf, coefficientsOf};
 use model::Factors;
 use model::Steps;
 
@@ -50,24 +49,19 @@ pub fn factors_of(steps: Steps) -> Factors
     }
 }
 
-// The link of two cells: the cube of the sum of their thicknesses, times the factor of its direction. At most 510 × 510 × 510 × 4: all of it is
-// worked in 32 bits.
-fn link(factor: u32, a: u8, b: u8) -> u32
-    requires { ⌜ factor ≤ 4 ⌝ }
-    ensures { λ r. ⌜ r ≡ linkOf factor a b ⌝ }
+// The cube of the sum of two thicknesses: at most 510 × 510 × 510.
+fn cube(a: u8, b: u8) -> u32
+    ensures { λ r. ⌜ r ≡ (a + b) * (a + b) * (a + b) ⌝ }
 {
     let sum = (a as u32) + (b as u32);
-    factor * (sum * sum * sum)
+    sum * sum * sum
 }
 
-pub fn links_of(around: Around, factors: Factors) -> Links
-    requires { ⌜ Stepped factors ⌝ }
-    ensures { λ r. ⌜ r ≡ linksOf around factors ⌝ }
+// Four links and their sum.
+fn gathered(left: u32, right: u32, down: u32, up: u32) -> Links
+    requires { ⌜ left + right + down + up ≤ 2122416000 ⌝ }
+    ensures { λ r. ⌜ r ≡ linksBy left right down up ⌝ }
 {
-    let left = link(factors.along, around.own, around.left);
-    let right = link(factors.along, around.own, around.right);
-    let down = link(factors.across, around.own, around.down);
-    let up = link(factors.across, around.own, around.up);
     Links {
         left,
         right,
@@ -75,6 +69,27 @@ pub fn links_of(around: Around, factors: Factors) -> Links
         up,
         sum: left + right + down + up,
     }
+}
+
+// The links of a cell: cubes, each times the factor of its direction. All of it is worked in 32 bits. Most films have no steps: their links are the
+// cubes, which four products a cell would make slower.
+pub fn links_of(around: Around, factors: Factors) -> Links
+    requires { ⌜ Stepped factors ⌝ }
+    ensures { λ r. ⌜ r ≡ linksOf around factors ⌝ }
+{
+    let left = cube(around.own, around.left);
+    let right = cube(around.own, around.right);
+    let down = cube(around.own, around.down);
+    let up = cube(around.own, around.up);
+    if (factors.along == 1) & (factors.across == 1) {
+        return gathered(left, right, down, up);
+    }
+    gathered(
+        factors.along * left,
+        factors.along * right,
+        factors.across * down,
+        factors.across * up,
+    )
 }
 
 // The link, if it stays in the grid; else 0.

@@ -19,7 +19,7 @@ use Rattle.model.proofs.Optional.{partIf, Rising}
 use Rattle.fields.specs.Tags.{fieldFor, testOf, Room}
 use Rattle.fields.proofs.Tags.{size-low}
 use Rattle.view.specs.declared.Step.{Step}
-use Rattle.view.specs.Walks.{Last, optionalOf, kindOf, nextOptional, nextTag, tagAfter, Steps, Walks}
+use Rattle.view.specs.Walks.{Last, optionalOf, kindOf, nextOptional, nextTag, tagAfter, Takes, Walks}
 
 -- how a walk goes on, or not
 goes-with : (c : Check) (last tag byte k : ℕ) → k ≡ tagAfter c last tag byte → eqb k 0 ≡ false → (c ≡ pass) × (k ≡ nextTag last tag byte)
@@ -113,7 +113,7 @@ module _ (l : List ℕ) (n t last : ℕ) where
     abbrev after : ℕ
     after = behind at (f .size)
 
-    module _ {s : Step} (S : Steps last n t tag l at s) where
+    module _ {s : Step} (S : Takes last n t tag l at s) where
       found : walk (kindOf last n t l) l 0 ≡ (checkOf (s .tested) orElse walk (o .others) l after)
       found =
           o .tests ∙ ap (λ c. c orElse walk (o .others) l after) (sym (S .finds ∙ ap (λ k. testOf f k l at) (sym (o .named))))

@@ -44,7 +44,7 @@ tagAfter pass last tag byte = nextTag last tag byte
 tagAfter (fail number place) last tag byte = 0
 
 -- a step of the walk: what the field's test finds and, where it passes, the offset behind the field; and the tag of the next field
-pub record Steps (last n t tag : ℕ) (bytes : List ℕ) (at : ℕ) (s : Step) : Type 0 where
+pub record Takes (last n t tag : ℕ) (bytes : List ℕ) (at : ℕ) (s : Step) : Type 0 where
   pub finds : checkOf (s .tested) ≡ testOf (fieldFor tag n t) tag bytes at
   pub goes-on : checkOf (s .tested) ≡ pass → s .next ≡ behind at (fieldFor tag n t .size)
   pub then : s .tag ≡ tagAfter (checkOf (s .tested)) last tag (byteAt bytes (s .next))

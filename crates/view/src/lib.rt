@@ -12,7 +12,7 @@ ghost use lib.Dec.{eqb};
 ghost use Rattle.model.specs.Refusals.{checkOf};
 ghost use Rattle.model.specs.File.{fieldsCheck};
 ghost use Rattle.fields.specs.Tags.{Room};
-ghost use Rattle.view.specs.Walks.{Last, kindOf, nextTag, Steps, Walks};
+ghost use Rattle.view.specs.Walks.{Last, kindOf, nextTag, Takes, Walks};
 use fault::Fault;
 use model::Tested;
 
@@ -50,7 +50,7 @@ fn following(tag: u8, last: u8, byte: u8) -> u8
 // The test of the field at an offset, and what follows it.
 fn step_at(file: &[u8], at: usize, tag: u8, n: usize, t: usize, last: u8) -> Step
     requires { ⌜ Room at n t × Last last ⌝ }
-    ensures { λ s. ⌜ Steps last n t tag (now (file .entry)) at s ⌝ }
+    ensures { λ s. ⌜ Takes last n t tag (now (file .entry)) at s ⌝ }
 {
     let walked = fields::field_test(file, at, tag, n, t);
     let next = walked.next;
@@ -72,7 +72,7 @@ fn step_at(file: &[u8], at: usize, tag: u8, n: usize, t: usize, last: u8) -> Ste
 // The step where a view stands.
 fn viewed<'a>(view: View<'a>, tag: u8, n: usize, t: usize, last: u8) -> Step
     requires { ⌜ Room (view .at) n t × Last last ⌝ }
-    ensures { λ s. ⌜ Steps last n t tag (now (view .entry .bytes)) (view .entry .at) s ⌝ }
+    ensures { λ s. ⌜ Takes last n t tag (now (view .entry .bytes)) (view .entry .at) s ⌝ }
 {
     step_at(view.bytes, view.at, tag, n, t, last)
 }

@@ -1,64 +1,110 @@
--- `stencil::links_of` meets its contract: each link is at most four times the cube of 510 (`link-low`), so that the sum of the four fits 32 bits.
-use Prim.Native.Nat.{_+_, _*_, _≤_}
+-- `stencil::links_of` meets its contract: a link is a cube of at most 510³ times a factor of at most 4 (`scaled-low`), so that the sum of four fits 32 bits; and
+-- with factors 1 and 1 the links are the cubes.
+use mathlib.Core.Path.{_≡_, _∙_}
+use Prim.Native.Nat.{ℕ, _+_, _*_, _≤_}
 use native.Mathlib.Omega.{arith}
 use borrow.Author.Needs.{needs}
-use Rattle.stencil.proofs.Fits.{link-low}
+use borrow.Author.Tests.{eqb-true}
+use lib.Dec.{eqb}
+use Rattle.model.specs.Gauge.{Stepped}
+use Rattle.model.specs.declared.Factors.{Factors}
+use Rattle.model.proofs.Checks.{and-parts}
+use Rattle.stencil.specs.Cell.{linksBy}
+use Rattle.stencil.specs.declared.Around.{Around}
+use Rattle.stencil.proofs.Fits.{cube-low, scaled-low, plain-links}
 use Rattle.stencil.proofs.links_of.Statement.{statement}
 use Rattle.stencil.proofs.links_of.Tie as tie
 
--- the four links leave their sum room
-sums : (c : tie.After-link4)
-    → c .before .before .before .link .result + c .before .before .link2 .result + c .before .link3 .result + c .link4 .result ≤ 16 * 132651000
-sums c =
-    let s = c .before .before .before .before in
-    let a = s .args .around in
-    let f = s .args .factors in
-    omega (
-      arith,
-      c .before .before .before .link .ensures,
-      c .before .before .link2 .ensures,
-      c .before .link3 .ensures,
-      c .link4 .ensures,
-      link-low (a .own) (a .left) (omega arith) (omega arith) (f .along) (s .pre .along-low),
-      link-low (a .own) (a .right) (omega arith) (omega arith) (f .along) (s .pre .along-low),
-      link-low (a .own) (a .down) (omega arith) (omega arith) (f .across) (s .pre .across-low),
-      link-low (a .own) (a .up) (omega arith) (omega arith) (f .across) (s .pre .across-low),
-    )
+abbrev around : tie.After-cube4 → Around
+around c = c .before .before .before .before .args .around
 
-link-requires : tie.Need-link-requires
-link-requires c κs = search needs
+abbrev factors : tie.After-cube4 → Factors
+factors c = c .before .before .before .before .args .factors
 
-link-requires-2 : tie.Need-link-requires-2
-link-requires-2 c κs = search needs
+stepped : (c : tie.After-cube4) → Stepped (factors c)
+stepped c = c .before .before .before .before .pre
 
-link-requires-3 : tie.Need-link-requires-3
-link-requires-3 c κs = search needs
+-- the four cubes, each at most 510³
+left-low : (c : tie.After-cube4) → c .before .before .before .cube .result ≤ 132651000
+left-low c = rw (c .before .before .before .cube .ensures) (cube-low (around c .own) (around c .left) (omega arith) (omega arith))
 
-link-requires-4 : tie.Need-link-requires-4
-link-requires-4 c κs = search needs
+right-low : (c : tie.After-cube4) → c .before .before .cube2 .result ≤ 132651000
+right-low c = rw (c .before .before .cube2 .ensures) (cube-low (around c .own) (around c .right) (omega arith) (omega arith))
 
-add-t7 : tie.Need-add-t7
-add-t7 c = let b = sums c in record { fits = omega arith }
+down-low : (c : tie.After-cube4) → c .before .cube3 .result ≤ 132651000
+down-low c = rw (c .before .cube3 .ensures) (cube-low (around c .own) (around c .down) (omega arith) (omega arith))
 
-add-t8 : tie.Need-add-t8
-add-t8 c = let b = sums c in record { fits = omega arith }
+up-low : (c : tie.After-cube4) → c .cube4 .result ≤ 132651000
+up-low c = rw (c .cube4 .ensures) (cube-low (around c .own) (around c .up) (omega arith) (omega arith))
 
-add-t9 : tie.Need-add-t9
-add-t9 c = let b = sums c in record { fits = omega arith }
+-- the cubes, from either branch
+abbrev cubes : tie.Then1 → tie.After-cube4
+cubes c = c .before .before .before
+
+abbrev scaling : tie.Else1 → tie.After-cube4
+scaling c = c .before .before .before
+
+cube-requires : tie.Need-cube-requires
+cube-requires c κs = search needs
+
+cube-requires-2 : tie.Need-cube-requires-2
+cube-requires-2 c κs = search needs
+
+cube-requires-3 : tie.Need-cube-requires-3
+cube-requires-3 c κs = search needs
+
+cube-requires-4 : tie.Need-cube-requires-4
+cube-requires-4 c κs = search needs
+
+gathered-requires : tie.Need-gathered-requires
+gathered-requires c κs = let k = cubes c in omega (arith, left-low k, right-low k, down-low k, up-low k)
 
 returns : tie.Need-returns
 returns c =
-    rw (c .link4 .ensures, c .before .link3 .ensures, c .before .before .link2 .ensures, c .before .before .before .link .ensures)
+    let k = cubes (c .before) in
+    let ones = and-parts (eqb (factors k .along) 1) (eqb (factors k .across) 1) (c .before .if1 .taken) in
+    c .gathered .ensures
+    ∙ (λ i. linksBy (k .before .before .before .cube .ensures i) (k .before .before .cube2 .ensures i) (k .before .cube3 .ensures i) (k .cube4 .ensures i))
+    ∙ plain-links (around k) (factors k) (eqb-true _ _ (ones .0)) (eqb-true _ _ (ones .1))
+
+mul-gathered : tie.Need-mul-gathered
+mul-gathered c = let k = scaling (c .before) in record { fits = omega (arith, scaled-low (stepped k .along-low) (left-low k)) }
+
+mul-gathered-2 : tie.Need-mul-gathered-2
+mul-gathered-2 c = let k = scaling (c .before .before) in record { fits = omega (arith, scaled-low (stepped k .along-low) (right-low k)) }
+
+mul-gathered-3 : tie.Need-mul-gathered-3
+mul-gathered-3 c = let k = scaling (c .before .before .before) in record { fits = omega (arith, scaled-low (stepped k .across-low) (down-low k)) }
+
+mul-gathered-4 : tie.Need-mul-gathered-4
+mul-gathered-4 c = let k = scaling (c .before .before .before .before) in record { fits = omega (arith, scaled-low (stepped k .across-low) (up-low k)) }
+
+gathered-requires-2 : tie.Need-gathered-requires-2
+gathered-requires-2 c κs =
+    let k = scaling (c .before .before .before .before) in
+    let s = stepped k in
+    omega (arith, scaled-low (s .along-low) (left-low k), scaled-low (s .along-low) (right-low k), scaled-low (s .across-low) (down-low k), scaled-low (s .across-low) (up-low k))
+
+returns-2 : tie.Need-returns-2
+returns-2 c =
+    let k = scaling (c .before .before .before .before .before) in
+    let f = factors k in
+    c .gathered2 .ensures
+    ∙ (λ i. linksBy (f .along * k .before .before .before .cube .ensures i) (f .along * k .before .before .cube2 .ensures i) (f .across * k .before .cube3 .ensures i) (f .across * k .cube4 .ensures i))
 
 pub links-of-spec : {M : Type 1} → statement M
 links-of-spec =
     tie.close
     (tie.spec
-    link-requires
-    link-requires-2
-    link-requires-3
-    link-requires-4
-    add-t7
-    add-t8
-    add-t9
-    returns)
+    cube-requires
+    cube-requires-2
+    cube-requires-3
+    cube-requires-4
+    gathered-requires
+    returns
+    mul-gathered
+    mul-gathered-2
+    mul-gathered-3
+    mul-gathered-4
+    gathered-requires-2
+    returns-2)

@@ -43,7 +43,7 @@ use denote.Triple.Walked.{says, needs, Stays, stay-none, walkOf, goes-none, Walk
 use denote.Exit.{yes}
 use denote.Triple.Clauses.{ensured, lasts}
 use Rattle.fields.specs.Tags.{Room}
-use Rattle.view.specs.Walks.{Last, Steps}
+use Rattle.view.specs.Walks.{Last, Takes}
 use Rattle.view.specs.declared.Step.{Step}
 use Rattle.view.proofs.Step as R
 use Rattle.view.proofs.Step.Laws as R′
@@ -87,7 +87,7 @@ module _ {M : Type 1} (𝓤 : URA M) (H : Heap 𝓤) (A : Atoms 𝓤) (W : Given
   v = sliceVal (d .bytes .ptr) (length (d .bytes .now))
 
   abbrev Found : Step → Type 0
-  Found r = Steps last n t g (now (d .bytes)) (d .at) r
+  Found r = Takes last n t g (now (d .bytes)) (d .at) r
 
   abbrev Post : Val → SProp 𝓤
   Post = walkOf 𝓤 H A viewed.ended stayed (viewed.clauses 𝓤 H A mem run) .post (((κ, tt), (q, tt), tt, a, at), tt)

@@ -49,7 +49,7 @@ use Rattle.fields.specs.Tags.{Room}
 use Rattle.view.specs.declared.Step.{Step}
 use Rattle.view.proofs.Step as R
 use Rattle.view.proofs.Step.Laws as R′
-use Rattle.view.specs.Walks.{Last, kindOf, Steps, Walks}
+use Rattle.view.specs.Walks.{Last, kindOf, Takes, Walks}
 use Rattle.view.specs.declared.View.{View}
 use Rattle.view.proofs.Trail.{On, begins, room, goes, stops}
 use Rattle.view.proofs.View as T
@@ -167,7 +167,7 @@ module _ {M : Type 1} (𝓤 : URA M) (H : Heap 𝓤) (A : Atoms 𝓤) (W : Given
       nothing ! $ owned ! u8 (Is u8) (uint-makes 𝓤 H A W w8) last _ (refl, last-ok) $ fjoin ! $ owned ! usize (Is usize) (uint-makes 𝓤 H A W w64) t _ (refl, t-ok) $ fjoin ! $ owned ! usize (Is usize) (uint-makes 𝓤 H A W w64) n _ (refl, n-ok) $ fjoin ! $ owned ! u8 (Is u8) (uint-makes 𝓤 H A W w8) g _ (refl, ok) $ fjoin ! $ move ! (1 ∷ 0 ∷ []) $ fjoin ! $ done !
 
   abbrev Found : ℕ → ℕ → Step → Type 0
-  Found a g y = Steps last n t g l a y
+  Found a g y = Takes last n t g l a y
 
   viewed-said : (a g : ℕ) (y : Step) → ent 𝓤 (ensured 𝓤 H A viewed.ended (viewed.clauses 𝓤 H A mem run) (κ, tt) (d a, (g, (n, (t, (last, tt))))) tt y) (fact 𝓤 (Found a g y))
   viewed-said a g y = exE 𝓤 _ (λ ws. snd∗ 𝓤 (sem 𝓤 H A (lasts viewed.ended (κ, tt) (d a, (g, (n, (t, (last, tt))))) ws)) (fact 𝓤 (Found a g y)))
