@@ -6,7 +6,7 @@
 use mathlib.Core.Path.{_≡_, refl, sym, ap, ap₂, _∙_}
 use mathlib.Core.Bool.{Bool, true, false, cond}
 use mathlib.Core.List.{List, [], _∷_, _++_}
-use Prim.Native.Nat.{ℕ, suc, _+_, _≤_, _<_}
+use Prim.Native.Nat.{ℕ, _+_, _≤_, _<_}
 use native.Mathlib.Nat.{le-refl, le-trans}
 use native.Mathlib.Omega.{arith}
 use borrow.Author.Tests.{eq-eqb, ne-eqb}
@@ -14,9 +14,9 @@ use lib.Dec.{eqb}
 use lib.ListN.{length, List·getD-eq-default}
 use Rattle.model.specs.Lists.{tabulate}
 use Rattle.model.specs.Bytes.{byteAt}
-use Rattle.model.specs.Fields.{Field, body, behind, fieldsEnd, Optional, absent, given, partAt, past, partsIn, present, givens, fieldsIn}
+use Rattle.model.specs.Fields.{Field, body, behind, fieldsEnd, Optional, absent, given, past, partsIn, present, givens}
 use Rattle.model.proofs.Lists.{tabulate-is, tabulate-same}
-use Rattle.model.proofs.Fields.{Passes, header, bodiesIn, Fit, Stands, Laid, Agree, AllLocal, end-above}
+use Rattle.model.proofs.Fields.{header, bodiesIn, Fit, Stands, Laid, Agree, AllLocal, end-above}
 
 -- ---- a list of fields and one behind it
 

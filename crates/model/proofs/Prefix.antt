@@ -17,7 +17,6 @@ use lib.Seq.{length-take-le, take-all, getD-take}
 use Rattle.model.specs.Limits.{thicknessLimit}
 use Rattle.model.specs.Lists.{tabulate}
 use Rattle.model.specs.Refusals.{Check, pass, fail, _orElse_}
-use Rattle.model.specs.Gauge.{Gauge}
 use Rattle.model.specs.Film.{Film, sizeOf}
 use Rattle.model.specs.Checks.{outside, shapeCheck, ceilingCheck, coefficientCheck, dominanceCheck}
 use Rattle.model.specs.Bytes.{byteAt, wordAt, signedOf}

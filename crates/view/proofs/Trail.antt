@@ -19,7 +19,7 @@ use Rattle.model.proofs.Optional.{partIf, Rising}
 use Rattle.fields.specs.Tags.{fieldFor, testOf, Room}
 use Rattle.fields.proofs.Tags.{size-low}
 use Rattle.view.specs.declared.Step.{Step}
-use Rattle.view.specs.Walks.{Last, optionalOf, kindOf, nextOptional, nextTag, tagAfter, Takes, Walks}
+use Rattle.view.specs.Walks.{Last, kindOf, nextOptional, nextTag, tagAfter, Takes, Walks}
 
 -- how a walk goes on, or not
 goes-with : (c : Check) (last tag byte k : ℕ) → k ≡ tagAfter c last tag byte → eqb k 0 ≡ false → (c ≡ pass) × (k ≡ nextTag last tag byte)

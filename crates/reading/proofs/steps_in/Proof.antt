@@ -1,6 +1,6 @@
 -- `reading::steps_in` meets its contract: its test is that of `partAt`, and the two bytes are the field's body (`factors-in`).
 use mathlib.Core.Path.{_≡_, sym, ap, _∙_}
-use mathlib.Core.Bool.{Bool, true, false}
+use mathlib.Core.Bool.{Bool}
 use denote.Ref.{now}
 use borrow.Author.Needs.{needs}
 use borrow.Author.Tests.{eq-eqb, ne-eqb}

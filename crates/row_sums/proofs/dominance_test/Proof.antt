@@ -1,5 +1,5 @@
 -- `row_sums::dominance_test` meets its contract: a search row by row (`RowsPassed`), and the sources do not enter its test (`every-wedge`).
-use mathlib.Core.Path.{_≡_, refl, _∙_}
+use mathlib.Core.Path.{_≡_, _∙_}
 use mathlib.Core.List.{List}
 use Prim.Native.Nat.{ℕ, _-_}
 use borrow.Author.Needs.{needs}

@@ -1,7 +1,7 @@
 -- `stencil::links_of` meets its contract: a link is a cube of at most 510³ times a factor of at most 4 (`scaled-low`), so that the sum of four fits 32 bits; and
 -- with factors 1 and 1 the links are the cubes.
-use mathlib.Core.Path.{_≡_, _∙_}
-use Prim.Native.Nat.{ℕ, _+_, _*_, _≤_}
+use mathlib.Core.Path.{_∙_}
+use Prim.Native.Nat.{_*_, _≤_}
 use native.Mathlib.Omega.{arith}
 use borrow.Author.Needs.{needs}
 use borrow.Author.Tests.{eqb-true}

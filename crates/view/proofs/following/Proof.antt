@@ -1,12 +1,12 @@
 -- `view::following` meets its contract: its first two tests are those of `nextTag`; what the third finds is read by the kind (`later`).
 use mathlib.Core.Path.{_≡_, refl, sym, ap, subst, _∙_}
-use mathlib.Core.Bool.{Bool, true, false, cond, _&&_}
+use mathlib.Core.Bool.{cond, _&&_}
 use mathlib.Core.Logic.{⊎-elim}
 use Prim.Native.Nat.{ℕ}
 use borrow.Author.Needs.{needs}
 use borrow.Author.Tests.{lt-ltb, le-ltb}
 use lib.Dec.{ltb, eqb}
-use Rattle.view.specs.Walks.{Last, optionalOf, nextOptional, nextTag}
+use Rattle.view.specs.Walks.{Last, optionalOf, nextOptional}
 use Rattle.view.proofs.following.Statement.{statement}
 use Rattle.view.proofs.following.Tie as tie
 

@@ -1,5 +1,5 @@
 -- `view::step_at` meets its contract: what the field's test found is handed on, and where it passed the tag of the next field is chosen by the byte behind it.
-use mathlib.Core.Path.{_≡_, refl, sym, ap, _∙_}
+use mathlib.Core.Path.{refl, sym, ap, _∙_}
 use Rattle.model.specs.Refusals.{checkOf}
 use Rattle.view.specs.Walks.{nextTag}
 use borrow.Author.Needs.{needs}

@@ -29,7 +29,7 @@ use types.Run.{look, store, init, forget, stop, fld, from, load, lit, of-opd, fi
 use sound.WpLaws.{FmC, fmOf, WpFn-mono}
 use denote.RattleType.{RattleType, owns}
 use denote.Laws.{Is, shows}
-use denote.Plain.{uint-makes, uint-vals, uint-tells, uint-lawful}
+use denote.Plain.{uint-makes, uint-vals, uint-tells}
 use denote.Builtin.{bool, u8, usize}
 use denote.Ref.{RefT, NamedLft, now}
 use denote.Signature.{plain, namedLft}
