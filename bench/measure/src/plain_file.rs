@@ -338,15 +338,17 @@ fn print(system: System, field: &[u32], ran: plain::Ran, text: &mut String) -> f
     if let Some((row, column)) = over.map(place) {
         return writeln!(text, "{row} {column}");
     }
-    let mut peak = 0;
-    for (cell, pressure) in field.iter().enumerate() {
+    // The greatest pressure so far, its column and its row. Rows come in order, so that of equals in
+    // one column the lowest row stays.
+    let mut peak = (0, 0, 0);
+    for (cell, &pressure) in field.iter().enumerate() {
         let (row, column) = place(cell);
         let slack = plain::slack(system, field, cell);
         writeln!(text, "{row} {column} {pressure} {slack}")?;
-        if field[peak] < *pressure {
-            peak = cell;
+        if (pressure, column) > (peak.0, peak.1) {
+            peak = (pressure, column, row);
         }
     }
-    let (row, column) = place(peak);
-    writeln!(text, "PEAK {row} {column} {}", field[peak])
+    let (pressure, column, row) = peak;
+    writeln!(text, "PEAK {row} {column} {pressure}")
 }

@@ -19,7 +19,7 @@ use Rattle.model.specs.Result.{Answer, answered, refused}
 use Rattle.model.specs.Run.{RunAnswer, done, stopped, over, countedIn}
 use Rattle.model.specs.File.{Bytes}
 use Rattle.model.specs.EitherFile.{readEither}
-use Rattle.model.specs.Report.{decimal, signed, line, filmWord, ceilingWord, doneWord, stoppedWord, overWord, refusedWord, peakWord, placeText, peakOf, cellLine, cellLines, peakLine, fieldText, answerLine, refusedLine, answerText, headLine, reportBudget, reportRun, filmReport, reportBy, reportOf}
+use Rattle.model.specs.Report.{decimal, signed, line, filmWord, ceilingWord, doneWord, stoppedWord, overWord, refusedWord, peakWord, placeText, peakCell, cellLine, cellLines, peakLine, fieldText, answerLine, refusedLine, answerText, headLine, reportBudget, reportRun, filmReport, reportBy, reportOf}
 use Rattle.model.specs.ReportCall.{longestReport}
 use Rattle.model.specs.declared.Counts.{Counts}
 use Rattle.model.proofs.Integers.{sub-source, positive-low, negative-low}
@@ -27,7 +27,7 @@ use Rattle.model.proofs.Lists.{getD-low}
 use Rattle.model.proofs.Sides.{pull-append}
 use Rattle.model.proofs.Run.{run-budget, run-raises, run-good}
 use Rattle.model.proofs.EitherFile.{either-accepted}
-use Rattle.model.proofs.Peak.{peak-below}
+use Rattle.model.proofs.Peak.{peak-is}
 use Rattle.model.proofs.Digits.{width, width-most, decimal-most, decimal-length, decimal-width, signed-length, two-words, three-words, five-words, placed-words, word-placed}
 
 -- ---- the cells' lines, one after another
@@ -180,8 +180,8 @@ module _ (f : Film) (l : Limited f) (p : List ℕ) (B : Bounded (rule f) p) wher
   -- the peak's line
   peak-length : length (peakLine f p) ≤ 20
   peak-length =
-      let i = peakOf p (sizeOf f) in
-      let h = peak-below p (sizeOf f) (mul-pos (l .sized .rows-some) (l .sized .columns-some)) in
+      let i = peakCell f p in
+      let h = peak-is (f .columns) p (sizeOf f) (mul-pos (l .sized .rows-some) (l .sized .columns-some)) .inside in
       omega (
         arith,
         word-placed peakWord (decimal (rowOf f i + 1)) (decimal (columnOf f i + 1)) (decimal (getD p i 0)),

@@ -1,8 +1,9 @@
 -- Document 01, "The report": the text's bytes, from the file's bytes.
-use mathlib.Core.Bool.{false, cond}
+use mathlib.Core.Path.{_≡_}
+use mathlib.Core.Bool.{Bool, false, cond, _&&_, _||_}
 use mathlib.Core.List.{List, [], _∷_, _++_}
 use Prim.Native.Nat.{ℕ, zero, suc, _+_, _/_, _%_, _≤_, _<_}
-use lib.Dec.{ltb}
+use lib.Dec.{ltb, eqb}
 use lib.IntN.{ℤ, pos, negsuc}
 use lib.ListN.{getD, replicate}
 use Rattle.model.specs.Film.{Film, sizeOf, rowOf, columnOf, slack}
@@ -58,19 +59,27 @@ refusedWord = 82 ∷ 69 ∷ 70 ∷ 85 ∷ 83 ∷ 69 ∷ 68 ∷ []
 abbrev pub placeText : Film → ℕ → List ℕ
 placeText f i = decimal (rowOf f i + 1) ␣ decimal (columnOf f i + 1)
 
--- the lowest index below n with the greatest pressure
-abbrev pub higher : List ℕ → ℕ → ℕ → ℕ
-higher p best i = cond (ltb (getD p best 0) (getD p i 0)) i best
+-- whether a cell takes the peak's place from one before it, of pressure top in column edge: by a greater pressure, or by an equal one in
+-- a greater column
+abbrev pub outranks : ℕ → ℕ → ℕ → ℕ → Bool
+outranks top edge pressure column = ltb top pressure || (eqb top pressure && ltb edge column)
 
-unfoldable pub peakOf : List ℕ → ℕ → ℕ
-peakOf p zero = 0
-peakOf p (suc n) = higher p (peakOf p n) n
+-- the peak of the first n cells, on a grid of so many columns
+module _ (columns : ℕ) (p : List ℕ) where
+  abbrev pub higher : ℕ → ℕ → ℕ
+  higher best i = cond (outranks (getD p best 0) (best % columns) (getD p i 0) (i % columns)) i best
 
--- document 01's peak in its words, which that is (`peak-is`): one of n cells, the greatest pressure, the lowest index of equals
-pub record Peak (p : List ℕ) (n top : ℕ) : Type 0 where
+  unfoldable pub peakOf : ℕ → ℕ
+  peakOf zero = 0
+  peakOf (suc n) = higher (peakOf n) n
+
+-- document 02's peak (W3) in its words, which that is (`peak-is`): one of n cells, the greatest pressure, of equals the greatest column,
+-- of those the lowest row
+pub record Peak (columns : ℕ) (p : List ℕ) (n top : ℕ) : Type 0 where
   pub inside : top < n
   pub greatest : (i : ℕ) → i < n → getD p i 0 ≤ getD p top 0
-  pub lowest : (i : ℕ) → i < top → getD p i 0 < getD p top 0
+  pub trailing : (i : ℕ) → i < n → getD p i 0 ≡ getD p top 0 → i % columns ≤ top % columns
+  pub lowest : (i : ℕ) → i < n → getD p i 0 ≡ getD p top 0 → i % columns ≡ top % columns → top / columns ≤ i / columns
 
 module _ (f : Film) (p : List ℕ) where
   abbrev pub cellLine : ℕ → List ℕ
@@ -81,8 +90,11 @@ module _ (f : Film) (p : List ℕ) where
   cellLines zero = []
   cellLines (suc n) = cellLines n ++ cellLine n
 
+  abbrev pub peakCell : ℕ
+  peakCell = peakOf (f .columns) p (sizeOf f)
+
   abbrev pub peakLine : List ℕ
-  peakLine = line (peakWord ␣ placeText f (peakOf p (sizeOf f)) ␣ decimal (getD p (peakOf p (sizeOf f)) 0))
+  peakLine = line (peakWord ␣ placeText f peakCell ␣ decimal (getD p peakCell 0))
 
   -- after Done and Stopped
   abbrev pub fieldText : List ℕ

@@ -41,15 +41,25 @@ fn wide(pressure: u32) -> u64
     pressure as u64
 }
 
-// The cell with the greatest pressure, the lowest of equals.
-fn peak(field: &[u32]) -> usize
-    ensures { λ r. ⌜ r ≡ peakOf (now (field .entry)) (length (now (field .entry))) ⌝ }
+// The peak, and `edge` is its column. Columns are counted along, so that no index is divided.
+fn peak(field: &[u32], columns: u32) -> usize
+    requires { ⌜ 1 ≤ columns ⌝ }
+    ensures { λ r. ⌜ r ≡ peakOf columns (now (field .entry)) (length (now (field .entry))) ⌝ }
 {
     let mut best = 0;
+    let mut edge = 0;
+    let mut column = 0;
     let mut i = 0;
     while i < field.len() {
-        if field[best] < field[i] {
+        let top = field[best];
+        let pressure = field[i];
+        if (top < pressure) | ((top == pressure) & (edge < column)) {
             best = i;
+            edge = column;
+        }
+        column += 1;
+        if column == columns {
+            column = 0;
         }
         i += 1;
     }
@@ -141,7 +151,7 @@ fn put_field(
     ensures { λ r. ⌜ Writes (fieldText (filmOf head [] (now (diagonals .entry)) (now (rights .entry)) (now (ups .entry)) (now (sources .entry))) (now (field .entry))) (now (out .entry)) at (now (out .exit)) r ⌝ }
 {
     let next = put_cells(head, diagonals, rights, ups, sources, field, out, at);
-    let top = peak(field);
+    let top = peak(field, head.columns);
     report_lines::put_peak(
         out,
         next,

@@ -13,6 +13,7 @@ mod coefficient_vectors;
 pub mod coefficients;
 pub mod film;
 pub mod line;
+mod peak_vectors;
 pub mod relax;
 pub mod report;
 pub mod run;

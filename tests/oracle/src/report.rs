@@ -82,20 +82,22 @@ fn field_lines(film: &CoefficientFilm, field: &[u32]) -> String {
         let slack = slack(film.system(), field, cell);
         text.push_str(&format!("{} {pressure} {slack}\n", place(film, cell)));
     }
-    let peak = peak(field);
+    let peak = peak(film, field);
     text.push_str(&format!("PEAK {} {}\n", place(film, peak), field[peak]));
     text
 }
 
-/// The cell of the greatest pressure, lowest index among equals.
-fn peak(field: &[u32]) -> usize {
-    let mut best = 0;
-    for (cell, &pressure) in field.iter().enumerate() {
-        if pressure > field[best] {
-            best = cell;
-        }
-    }
-    best
+/// The cell of the greatest pressure; among equals the one of the greatest column, and there of the
+/// lowest row (document 02, W3). It is the first to be met from the last column back, each column from
+/// row 1 up.
+fn peak(film: &CoefficientFilm, field: &[u32]) -> usize {
+    let (rows, columns) = (film.rows(), film.columns());
+    let greatest = field.iter().max().expect("a film has cells");
+    (0..columns)
+        .rev()
+        .flat_map(|column| (0..rows).map(move |row| row * columns + column))
+        .find(|&cell| field[cell] == *greatest)
+        .expect("one of them has it")
 }
 
 /// r and c of a cell, from (1, 1).

@@ -89,6 +89,17 @@ pub fn meshed(
     }
 }
 
+/// A coefficient film without links: every cell has its own quotient, which is the pressure given for it.
+pub fn apart(pressures: &[&[u32]]) -> CoefficientFilm {
+    let shape = (pressures.len(), pressures[0].len());
+    meshed(shape, HIGHEST, |r, c| Faces {
+        loss: 10,
+        right: 0,
+        up: 0,
+        source: -10 * Whole::from(pressures[r - 1][c - 1]),
+    })
+}
+
 /// Film F of document 01.
 pub fn film_f() -> Film {
     Film {
@@ -116,6 +127,12 @@ pub fn unequal_pad() -> Film {
         114 - 3 * c as u8 + from_middle / 8
     });
     stepped(&pad, (4, 1))
+}
+
+/// A plane pad that is tilted along and a little across, under a wedge so light that pressures are a few
+/// steps: the top is flat. Seven cells have its pressure, rows 3 to 6 of column 8 and rows 4 to 6 of column 9.
+pub fn flat_top() -> Film {
+    made((8, 10), 1_000, 10_000, |r, c| (56 - 3 * c - r) as u8)
 }
 
 /// A plane slider: thickness falls by 3 a column from 90 at the inlet to 15 at the outlet, the
@@ -238,7 +255,7 @@ pub fn refused_coefficients() -> CoefficientFilm {
 
 /// Every sample with its name, in the order of the page that describes them.
 pub fn samples() -> Vec<(&'static str, Vec<u8>)> {
-    [equal_step_samples(), step_samples()].concat()
+    [equal_step_samples(), step_samples(), peak_samples()].concat()
 }
 
 /// The samples without field 0A.
@@ -266,4 +283,9 @@ pub(crate) fn step_samples() -> Vec<(&'static str, Vec<u8>)> {
         ("film-f-steps", write(&film_f_steps())),
         ("unequal-pad", write(&unequal_pad())),
     ]
+}
+
+/// The sample of the peak among equals.
+pub(crate) fn peak_samples() -> Vec<(&'static str, Vec<u8>)> {
+    vec![("flat-top", write(&flat_top()))]
 }

@@ -4,6 +4,7 @@
 use crate::coefficient_film::convert;
 use crate::coefficient_vectors;
 use crate::film::{file_length, write, Film};
+use crate::peak_vectors;
 use crate::report::reported_run;
 use crate::samples::{equal_step_samples, film_f, journal, made, HIGHEST};
 use crate::step_vectors;
@@ -36,6 +37,7 @@ pub fn all() -> Vec<Vector> {
     coefficient_vectors::add(&mut list);
     step_vectors::add(&mut list);
     coefficient_vectors::add_beside_steps(&mut list);
+    peak_vectors::add(&mut list);
     list.0
 }
 

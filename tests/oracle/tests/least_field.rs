@@ -8,6 +8,7 @@ use film_oracle::report::{self, report};
 use film_oracle::run::{run, Answer, Ordering, Outcome};
 use film_oracle::samples::{journal_thickness, made, meshed, stepped, Faces};
 use film_oracle::vectors::all;
+use std::cmp::Reverse;
 use std::collections::HashSet;
 
 const ORDERINGS: [Ordering; 3] = [Ordering::Forward, Ordering::Backward, Ordering::RedBlack];
@@ -261,10 +262,16 @@ fn padded(film: &CoefficientFilm, parsed: &Parsed) -> Vec<i128> {
     pressures
 }
 
+/// The last line: greatest by pressure, then by column, then by falling row.
+fn peak_line(cells: &[[i128; 4]]) -> String {
+    let ranks = cells.iter().map(|&[r, c, p, _]| (p, c, Reverse(r)));
+    let (pressure, c, Reverse(r)) = ranks.max().unwrap();
+    format!("PEAK {r} {c} {pressure}")
+}
+
 fn check_field(name: &str, file: &[u8], film: &CoefficientFilm, parsed: &Parsed) {
     assert_eq!(parsed.cells.len(), film.cells(), "{name}");
     let pressures = padded(film, parsed);
-    let mut peak = parsed.cells[0];
     for (cell, &[r, c, pressure, slack]) in parsed.cells.iter().enumerate() {
         assert_eq!(r as usize, cell / film.columns() + 1, "{name}");
         assert_eq!(c as usize, cell % film.columns() + 1, "{name}");
@@ -277,12 +284,8 @@ fn check_field(name: &str, file: &[u8], film: &CoefficientFilm, parsed: &Parsed)
             let lower = film.coefficients.diagonals[cell];
             assert!(pressure == 0 || slack < lower, "{name}");
         }
-        if pressure > peak[2] {
-            peak = parsed.cells[cell];
-        }
     }
-    let expected = format!("PEAK {} {} {}", peak[0], peak[1], peak[2]);
-    assert_eq!(parsed.last.join(" "), expected, "{name}");
+    assert_eq!(parsed.last.join(" "), peak_line(&parsed.cells), "{name}");
 }
 
 /// Visits, raises and total keep document 01's bounds.

@@ -663,7 +663,7 @@ const SHOWN: &[(&str, &str)] = &[
     ("steps-3-2", "DONE 4 2, 1 1 1 202, 1 2 2 93, PEAK 1 2 2"),
     (
         "steps-2-3-wedge-0",
-        "DONE 2 0, 1 1 0 0, 1 2 0 0, PEAK 1 1 0",
+        "DONE 2 0, 1 1 0 0, 1 2 0 0, PEAK 1 2 0",
     ),
     // 430, 1045, 551, 1100, 557, 1103, then nothing.
     (
@@ -672,7 +672,7 @@ const SHOWN: &[(&str, &str)] = &[
     ),
     (
         "steps-2-3-wedge-down",
-        "DONE 2 0, 1 1 0 200000, 1 2 0 100000, PEAK 1 1 0",
+        "DONE 2 0, 1 1 0 200000, 1 2 0 100000, PEAK 1 2 0",
     ),
     ("steps-2-3-over", "OVER 2 1, 1 2"),
     ("steps-one-cell-exact", "DONE 2 1, 1 1 10 0, PEAK 1 1 10"),

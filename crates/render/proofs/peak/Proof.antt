@@ -1,33 +1,39 @@
--- `render::peak` meets its contract: after each turn `best` is the model's peak of the first i cells (`Peaked`), and only a greater pressure replaces it.
+-- `render::peak` meets its contract: after each turn `best` is the model's peak of the first i cells, its column and that of cell i are counted (`Peaked`).
+use mathlib.Core.Path.{_≡_, _∙_}
 use mathlib.Core.Logic.{⊎-elim}
-use Prim.Native.Nat.{_-_, _<_}
+use Prim.Native.Nat.{_+_, _-_, _%_, _<_}
+use native.Mathlib.Nat.{mod-lt}
+use native.Mathlib.Omega.{arith}
 use denote.Ref.{now}
 use lib.ListN.{length}
 use borrow.Author.Needs.{needs}
-use Rattle.render.proofs.Greatest.{Peaked, peak-none, peak-greater, peak-kept, peak-all}
+use Rattle.render.proofs.Greatest.{Peaked, one-further, first-again, peak-none, peak-taken, peak-kept, peak-all}
 use Rattle.render.proofs.peak.Statement.{statement}
 use Rattle.render.proofs.peak.Tie as tie
 
 abbrev Inv-loop : tie.InvT-loop
-Inv-loop field best₀ i₀ best i = Peaked field i best
+Inv-loop field columns best₀ edge₀ column₀ i₀ best edge column i = Peaked columns field best edge column i
 
 abbrev μ-loop : tie.MeasureT-loop
-μ-loop field best₀ i₀ best i = length field - i
+μ-loop field columns best₀ edge₀ column₀ i₀ best edge column i = length field - i
 
 loop-holds : tie.Need-loop-holds Inv-loop μ-loop
 loop-holds c = peak-none
 
-mul-if1 : tie.Need-mul-if1 Inv-loop μ-loop
-mul-if1 c = search needs
+mul-top : tie.Need-mul-top Inv-loop μ-loop
+mul-top c = search needs
 
-shared-slice-read-if1 : tie.Need-shared-slice-read-if1 Inv-loop μ-loop
-shared-slice-read-if1 c = search needs
+shared-slice-read-top : tie.Need-shared-slice-read-top Inv-loop μ-loop
+shared-slice-read-top c = search needs
 
-mul-if1-2 : tie.Need-mul-if1-2 Inv-loop μ-loop
-mul-if1-2 c = search needs
+mul-pressure : tie.Need-mul-pressure Inv-loop μ-loop
+mul-pressure c = search needs
 
-shared-slice-read-if1-2 : tie.Need-shared-slice-read-if1-2 Inv-loop μ-loop
-shared-slice-read-if1-2 c = search needs
+shared-slice-read-pressure : tie.Need-shared-slice-read-pressure Inv-loop μ-loop
+shared-slice-read-pressure c = search needs
+
+add-column : tie.Need-add-column Inv-loop μ-loop
+add-column c = let l = c .before .before .before .before in omega (arith, l .loop .inv .counted, mod-lt (l .loop .i) (l .before .pre))
 
 add-i : tie.Need-add-i Inv-loop μ-loop
 add-i c = search needs
@@ -37,9 +43,17 @@ loop-less c = search needs
 
 loop-again : tie.Need-loop-again Inv-loop μ-loop
 loop-again c =
-    let l = c .before .before .before .before in
+    let l = c .before .before .before .before .before in
     let h : l .loop .i < length (now (l .before .args .field)) = search needs in
-    ⊎-elim (λ w. rw (w .1) (peak-greater h (l .loop .inv) (w .0 .taken))) (λ w. rw (w .1) (peak-kept h (l .loop .inv) (w .0 .left))) (c .if1 .came)
+    let n : c .if2 .column ≡ (l .loop .i + 1) % l .before .args .columns =
+    ⊎-elim
+    (λ w. w .1 ∙ first-again _ _ (l .loop .inv .counted) (w .0 .taken))
+    (λ w. w .1 ∙ one-further _ _ (l .loop .inv .counted) (l .before .pre) (w .0 .left))
+    (c .if2 .came) in
+    ⊎-elim
+    (λ w. rw (w .1, w .2) (peak-taken h (l .loop .inv) (w .0 .taken) n))
+    (λ w. rw (w .1, w .2) (peak-kept h (l .loop .inv) (w .0 .left) n))
+    (c .before .if1 .came)
 
 returns : tie.Need-returns Inv-loop μ-loop
 returns c = peak-all (c .before .loop .inv) (c .loop-test .left)
@@ -51,10 +65,11 @@ peak-spec =
     Inv-loop
     μ-loop
     loop-holds
-    mul-if1
-    shared-slice-read-if1
-    mul-if1-2
-    shared-slice-read-if1-2
+    mul-top
+    shared-slice-read-top
+    mul-pressure
+    shared-slice-read-pressure
+    add-column
     add-i
     loop-less
     loop-again

@@ -6,7 +6,7 @@ use native.Mathlib.Nat.{mul-le-mul}
 use native.Mathlib.Omega.{arith}
 use denote.Ref.{now}
 use Rattle.model.specs.Film.{Film, filmOf}
-use Rattle.model.specs.Report.{peakOf, peakLine}
+use Rattle.model.specs.Report.{peakOf, peakCell, peakLine}
 use Rattle.grid.proofs.Limited.{size-low}
 use Rattle.text.specs.Writes.{Fits, Writes}
 use Rattle.report_lines.specs.Lines.{peakText}
@@ -26,14 +26,14 @@ abbrev start : tie.After-peak → tie.Start
 start c = cells c .before .before .before .before .before .before .before
 
 -- the peak is the field's, and a cell of the grid
-top-is : (c : tie.After-peak) → c .peak .result ≡ peakOf (now (start c .args .field)) (start c .args .head .rows * start c .args .head .columns)
-top-is c = c .peak .ensures ∙ ap (peakOf (now (start c .args .field))) (start c .pre .1 .0)
+top-is : (c : tie.After-peak) → c .peak .result ≡ peakCell (film (start c)) (now (start c .args .field))
+top-is c = let a = start c .args in c .peak .ensures ∙ ap (peakOf (a .head .columns) (now (a .field))) (start c .pre .1 .0)
 
 top-inside : (c : tie.After-peak) → c .peak .result < start c .args .head .rows * start c .args .head .columns
 top-inside c =
     let s = start c in
     let z = s .pre .0 .1 .sized in
-    peak-inside (now (s .args .field)) (s .args .head .rows * s .args .head .columns) (omega (arith, mul-le-mul (z .rows-some) (z .columns-some))) (top-is c)
+    peak-inside (film s) (now (s .args .field)) (omega (arith, mul-le-mul (z .rows-some) (z .columns-some))) (top-is c)
 
 placed : (c : tie.After-peak) → (1 ≤ start c .args .head .columns) × (c .peak .result ≤ 1024)
 placed c = let z = start c .pre .0 .1 .sized in (z .columns-some, omega (arith, size-low z, top-inside c))
@@ -51,7 +51,7 @@ put-cells-requires c κs =
     (s .pre .0, (s .pre .1 .0, fits-first _ _ (s .pre .1 .1)))
 
 peak-requires : tie.Need-peak-requires
-peak-requires c κs = search needs
+peak-requires c κs = c .before .before .before .before .before .before .before .before .before .pre .0 .1 .sized .columns-some
 
 row-requires : tie.Need-row-requires
 row-requires c κs = placed (c .before)
