@@ -10,7 +10,7 @@ use native.Mathlib.Omega.{arith}
 use borrow.Author.Tests.{ltb-true, ltb-false, eqb-true, eqb-false}
 use lib.ListN.{getD}
 use Rattle.model.specs.Film.{Film, sizeOf, rowOf, columnOf}
-use Rattle.model.specs.Report.{decimal, _␣_, placeText, outranks, higher, peakOf, peakCell, Peak}
+use Rattle.model.specs.Report.{decimal, _␣_, line, peakWord, outranks, higher, peakOf, Peak, peakCell, peakLine}
 
 -- what the test says where it is met, and where it is not
 or-true : (a b c : Bool) → (a || (b && c)) ≡ true → (a ≡ true) ⊎ ((b ≡ true) × (c ≡ true))
@@ -104,15 +104,16 @@ module _ (columns : ℕ) (p : List ℕ) where
 
 -- a film at zero pressure prints its last column in row 1
 pub peak-at-zero : (f : Film) (p : List ℕ) → 0 < f .rows → 0 < f .columns → ((i : ℕ) → i < sizeOf f → getD p i 0 ≡ 0)
-    → placeText f (peakCell f p) ≡ decimal 1 ␣ decimal (f .columns)
+    → peakLine f p ≡ line (peakWord ␣ (decimal 1 ␣ decimal (f .columns)) ␣ decimal 0)
 peak-at-zero f p r c zeros =
     let top = peakCell f p in
     let P = peak-is (f .columns) p (sizeOf f) (mul-pos r c) in
     let last = f .columns - 1 in
     let b : last < sizeOf f = omega (arith, mul-le-mul {m₁ = f .columns} {m₂ = f .columns} r (le-refl (f .columns))) in
-    let level : getD p last 0 ≡ getD p top 0 = zeros last b ∙ sym (zeros top (P .inside)) in
+    let rest : getD p top 0 ≡ 0 = zeros top (P .inside) in
+    let level : getD p last 0 ≡ getD p top 0 = zeros last b ∙ sym rest in
     let its : columnOf f last ≡ last = mod-eq-of-lt (omega arith) in
     let column : columnOf f top + 1 ≡ f .columns = omega (arith, P .trailing last b level, mod-lt top c) in
     let first : rowOf f last ≡ 0 = div-eq-of-lt (omega arith) in
     let row : rowOf f top + 1 ≡ 1 = omega (arith, P .lowest last b level (omega arith)) in
-    rw (row, column)
+    rw (row, column, rest)
