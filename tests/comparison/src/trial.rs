@@ -482,9 +482,26 @@ fn report(file: &[u8], length: usize, tally: &mut Tally, differences: &mut Diffe
 fn report_word(text: &[u8]) -> &'static str {
     let line = text.split(|&byte| byte == b'\n').nth(1).unwrap_or(&[]);
     match line.first() {
+        Some(b'D') if flat_top(text) => "DONE with a flat top",
         Some(b'D') => "DONE",
         Some(b'S') => "STOPPED",
         Some(b'O') => "OVER",
         _ => "REFUSED",
     }
+}
+
+/// Whether more than one column of a report has the greatest pressure.
+fn flat_top(text: &[u8]) -> bool {
+    let text = String::from_utf8_lossy(text);
+    let lines: Vec<Vec<&str>> = text
+        .lines()
+        .skip(2)
+        .map(|line| line.split(' ').collect())
+        .collect();
+    let Some((peak, cells)) = lines.split_last() else {
+        return false;
+    };
+    cells
+        .iter()
+        .any(|cell| cell[2] == peak[3] && cell[1] != peak[2])
 }
