@@ -51,7 +51,9 @@ put-cells-requires c κs =
     (s .pre .0, (s .pre .1 .0, fits-first _ _ (s .pre .1 .1)))
 
 peak-requires : tie.Need-peak-requires
-peak-requires c κs = c .before .before .before .before .before .before .before .before .before .pre .0 .1 .sized .columns-some
+peak-requires c κs =
+    let z = c .before .before .before .before .before .before .before .before .before .pre .0 .1 .sized in
+    omega (arith, z .rows-some, z .columns-some)
 
 row-requires : tie.Need-row-requires
 row-requires c κs = placed (c .before)
