@@ -57,6 +57,14 @@ fn cube(a: u8, b: u8) -> u32
     sum * sum * sum
 }
 
+// A cube times the factor of its direction: at most 4 × 510 × 510 × 510.
+fn scaled(factor: u32, cubed: u32) -> u32
+    requires { ⌜ (factor ≤ 4) × (cubed ≤ 132651000) ⌝ }
+    ensures { λ r. ⌜ (r ≡ factor * cubed) × (r ≤ 530604000) ⌝ }
+{
+    factor * cubed
+}
+
 // Four links and their sum.
 fn gathered(left: u32, right: u32, down: u32, up: u32) -> Links
     requires { ⌜ left + right + down + up ≤ 2122416000 ⌝ }
@@ -85,10 +93,10 @@ pub fn links_of(around: Around, factors: Factors) -> Links
         return gathered(left, right, down, up);
     }
     gathered(
-        factors.along * left,
-        factors.along * right,
-        factors.across * down,
-        factors.across * up,
+        scaled(factors.along, left),
+        scaled(factors.along, right),
+        scaled(factors.across, down),
+        scaled(factors.across, up),
     )
 }
 
