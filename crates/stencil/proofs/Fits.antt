@@ -29,10 +29,6 @@ module _ {z : ℤ} (fits : SFits w32 z) where
 abbrev cubed : ℕ → ℕ → ℕ
 cubed a b = (a + b) * (a + b) * (a + b)
 
--- a factor times a cube
-pub scaled-low : {f k low : ℕ} → f ≤ stepLimit → k ≤ low → f * k ≤ stepLimit * low
-scaled-low h l = mul-le-mul h l
-
 -- the square and the cube of the sum of two, and that times a factor
 module _ (a b : ℕ) (h : a < 256) (k : b < 256) where
   sum-low : a + b ≤ 510
@@ -45,7 +41,7 @@ module _ (a b : ℕ) (h : a < 256) (k : b < 256) where
   cube-low = mul-le-mul square-low sum-low
 
   pub link-low : (f : ℕ) → f ≤ stepLimit → linkOf f a b ≤ stepLimit * (510 * 510 * 510)
-  link-low f l = scaled-low l cube-low
+  link-low f l = mul-le-mul l cube-low
 
 -- with factors 1 and 1 the links are the cubes
 pub plain-links : (a : Around) (f : Factors) → f .along ≡ 1 → f .across ≡ 1

@@ -1,39 +1,34 @@
--- Document 02, W4: "Let every number in it, lengths and indices aside, have 32 bits or fewer", of a function's MIR, which its contract is proved of and which is compiled. Each argument, the result and each number on the way
--- stands in a local of its own type there. The link routine has no length and no index, no pointer to a number elsewhere and no float, so that none is let through.
+-- Document 02, W4: "Let every number in it, lengths and indices aside, have 32 bits or fewer", of a function's MIR: the code that its contract is proved of, and that is compiled. There each argument, the result and each number on the way to it
+-- is a local with a type, and a constant has the width of the local that it is worked with. The link routine has no length and no index, and it has no pointer or float, so that none is let through.
 use mathlib.Core.Path.{_≡_}
 use mathlib.Core.Bool.{Bool, true, false, _&&_}
 use mathlib.Core.List.{List, [], _∷_, map}
-use mir.Syntax.{Width, w8, w16, w32, w64, w128, Ty, tyInt, tyBool, tyFloat, tyPtr, tyRef, tyArray, tyUnit, tyStruct, tyEnum, tyNamed, Tys, tnil, tcons, Local, local, Fn}
-use prog.Routine.{Name, Routine}
-
-abbrev narrow : Width → Bool
-narrow w8 = true
-narrow w16 = true
-narrow w32 = true
-narrow w64 = false
-narrow w128 = false
+use lib.Dec.{leb}
+use mir.Syntax.{Name, Ty, tyInt, tyBool, tyFloat, tyPtr, tyRef, tyArray, tyUnit, tyStruct, tyEnum, tyNamed, Tys, tnil, tcons, Local, local, Fn}
+use mir.Val.{bits}
+use prog.Routine.{Routine}
 
 abbrev mutual
-  narrowType : Ty → Bool
-  narrowType (tyInt w) = narrow w
-  narrowType tyBool = true
-  narrowType (tyFloat f) = false
-  narrowType tyPtr = false
-  narrowType (tyRef κ μ τ) = false
-  narrowType (tyArray τ n) = narrowType τ
-  narrowType tyUnit = true
-  narrowType (tyStruct s τs) = narrowTypes τs
-  narrowType (tyEnum s τss) = false
-  narrowType (tyNamed h) = false
+  narrow : Ty → Bool
+  narrow (tyInt w) = leb (bits w) 32
+  narrow tyBool = true
+  narrow (tyFloat f) = false
+  narrow tyPtr = false
+  narrow (tyRef κ μ τ) = false
+  narrow (tyArray τ n) = narrow τ
+  narrow tyUnit = true
+  narrow (tyStruct s τs) = allNarrow τs
+  narrow (tyEnum s τss) = false
+  narrow (tyNamed h) = false
 
-  narrowTypes : Tys → Bool
-  narrowTypes tnil = true
-  narrowTypes (tcons τ τs) = narrowType τ && narrowTypes τs
+  allNarrow : Tys → Bool
+  allNarrow tnil = true
+  allNarrow (tcons τ τs) = narrow τ && allNarrow τs
 
 abbrev narrowLocals : List Local → Bool
 narrowLocals [] = true
-narrowLocals (local τ h ∷ ls) = narrowType τ && narrowLocals ls
+narrowLocals (local τ h ∷ ls) = narrow τ && narrowLocals ls
 
--- every number in the function has 32 bits or fewer, and these are all that it calls
+-- every number in the function has 32 bits or fewer, and these are all others that it can call: the names of its table of calls
 abbrev pub Narrow : Fn → List (Name × Routine) → List Name → Type 0
-Narrow f called names = (narrowLocals (f .locals) ≡ true) × (map (λ (c : Name × Routine). c .0) called ≡ names)
+Narrow f calls names = (narrowLocals (f .locals) ≡ true) × (map (λ (c : Name × Routine). c .0) calls ≡ names)

@@ -2,7 +2,7 @@
 // plain values. Internal: `forming` makes a film's coefficients of it, and `row_sums` takes a cell's links.
 //
 // Proved: each number is document 01's (crate `model`: Coefficients), and fits its type whatever thicknesses of 8 bits and wedge number of 32 it is made of,
-// with factors within their limits.
+// with factors within their limits. What `links_of` and its callees work with has 32 bits or fewer, by their MIR (proofs/Widths).
 ghost use mathlib.Core.Path.{_≡_};
 ghost use mathlib.Core.Bool.{cond};
 ghost use Prim.Native.Nat.{_+_, _*_, _≤_};

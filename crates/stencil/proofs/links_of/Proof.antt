@@ -1,5 +1,5 @@
--- `stencil::links_of` meets its contract: a link is a cube of at most 510³ times a factor of at most 4 (`scaled-low`), so that the sum of four fits 32 bits; and
--- with factors 1 and 1 the links are the cubes.
+-- `stencil::links_of` meets its contract: a cube of at most 510³ and a factor of at most 4 are what `scaled` asks for, and the sum of four fits 32 bits; with factors 1 and 1
+-- the links are the cubes.
 use mathlib.Core.Path.{_∙_, refl}
 use mathlib.Core.List.{[], _∷_}
 use Prim.Native.Nat.{_*_, _≤_}
@@ -12,7 +12,7 @@ use Rattle.model.specs.declared.Factors.{Factors}
 use Rattle.model.proofs.Checks.{and-parts}
 use Rattle.stencil.specs.Cell.{linksBy}
 use Rattle.stencil.specs.declared.Around.{Around}
-use Rattle.stencil.proofs.Fits.{cube-low, scaled-low, plain-links}
+use Rattle.stencil.proofs.Fits.{cube-low, plain-links}
 use Rattle.stencil.proofs.Widths.{Narrow}
 use Rattle.stencil.proofs.cube.Symbol.{name as #cube}
 use Rattle.stencil.proofs.scaled.Symbol.{name as #scaled}
