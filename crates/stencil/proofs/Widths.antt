@@ -1,5 +1,5 @@
 -- Document 02, W4: "Let every number in it, lengths and indices aside, have 32 bits or fewer", of a function's MIR: the code that its contract is proved of, and that is compiled. There each argument, the result and each number on the way to it
--- is a local with a type, and a constant has the width of the local that it is worked with. The link routine has no length and no index, and it has no pointer or float, so that none is let through.
+-- is a local with a type, and a constant has the width of the local that it is worked with. The link routine has no length and no index, and no pointer, float or enum, so that none is let through.
 use mathlib.Core.Path.{_≡_}
 use mathlib.Core.Bool.{Bool, true, false, _&&_}
 use mathlib.Core.List.{List, [], _∷_, map}

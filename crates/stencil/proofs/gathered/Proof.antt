@@ -11,17 +11,5 @@ use Rattle.stencil.proofs.gathered.Tie as tie
 pub gathered-narrow : Narrow function bindings []
 gathered-narrow = (refl, refl)
 
-add-two : tie.Need-add-t5
-add-two c = search needs
-
-add-three : tie.Need-add-t6
-add-three c = search needs
-
-add-four : tie.Need-add-t7
-add-four c = search needs
-
-returns : tie.Need-returns
-returns c = search needs
-
 pub gathered-spec : {M : Type 1} → statement M
-gathered-spec = tie.close (tie.spec add-two add-three add-four returns)
+gathered-spec = tie.close (tie.spec (λ c. search needs) (λ c. search needs) (λ c. search needs) (λ c. search needs))
