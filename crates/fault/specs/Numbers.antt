@@ -19,3 +19,5 @@ numberOf faults.StartAboveCeiling = 12  -- start
 numberOf faults.OutOfGrid = 13  -- line
 numberOf faults.BadCoefficient = 14  -- coefficient
 numberOf faults.BadStep = 15  -- a step (document 02, W2)
+numberOf faults.NoWeights = 16  -- Over in the search for weights (document 02, W5)
+numberOf faults.WeightsNotFound = 17  -- neither Over nor Done in it

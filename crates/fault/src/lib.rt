@@ -19,6 +19,8 @@ pub enum Fault {
     OutOfGrid,
     BadCoefficient,
     BadStep,
+    NoWeights,
+    WeightsNotFound,
 }
 
 impl Fault {
@@ -42,6 +44,8 @@ impl Fault {
             Fault::OutOfGrid => 13,
             Fault::BadCoefficient => 14,
             Fault::BadStep => 15,
+            Fault::NoWeights => 16,
+            Fault::WeightsNotFound => 17,
         }
     }
 }

@@ -10,7 +10,7 @@ use lib.ListN.{length}
 use Rattle.model.specs.Refusals.{Check, pass, checkOf, _orElse_, failIf}
 use Rattle.model.specs.Bytes.{byteAt, wordAt}
 use Rattle.model.specs.Fields.{Field, body, behind, fieldAt}
-use Rattle.model.specs.File.{shapeField, ceilingField, weightsField, thicknessesField, wedgeField, stepsField}
+use Rattle.model.specs.File.{shapeField, ceilingField, weightsField, thicknessesField, wedgeField, stepsField, weightless, carried}
 use Rattle.model.specs.CoefficientFile.{diagonalsField, rightsField, upsField, sourcesField}
 use Rattle.model.specs.declared.Refusal.{Refusal}
 use Rattle.model.specs.declared.Tested.{Tested}
@@ -25,10 +25,17 @@ either-low : (b : Bool) (x y : Field) {k : ℕ} → x .size ≤ k → y .size �
 either-low true x y h l = h
 either-low false x y h l = l
 
-pub size-low : (tag n t : ℕ) → n ≤ 65025 → t ≤ 66049 → fieldFor tag n t .size ≤ 520200
-size-low tag n t h l =
+pub carried-low : (l : List ℕ) (n : ℕ) → carried l n ≤ n
+carried-low l n = go (weightless l)
+  where
+    go : (none : Bool) → cond none 0 n ≤ n
+    go true = omega arith
+    go false = omega arith
+
+pub size-low : (bytes : List ℕ) (tag n t : ℕ) → n ≤ 65025 → t ≤ 66049 → fieldFor bytes tag n t .size ≤ 520200
+size-low bytes tag n t h l =
     either-low (eqb tag 1) shapeField _ (omega arith) (either-low (eqb tag 2) ceilingField _ (omega arith)
-    (either-low (eqb tag 3) (weightsField n) _ (omega arith) (either-low (eqb tag 4) (thicknessesField t) _ (omega arith)
+    (either-low (eqb tag 3) (weightsField (carried bytes n)) _ (omega (arith, carried-low bytes n)) (either-low (eqb tag 4) (thicknessesField t) _ (omega arith)
     (either-low (eqb tag 5) wedgeField _ (omega arith) (either-low (eqb tag 6) (diagonalsField n) _ (omega arith)
     (either-low (eqb tag 7) (rightsField n) _ (omega arith) (either-low (eqb tag 8) (upsField n) _ (omega arith)
     (either-low (eqb tag 9) (sourcesField n) _ (omega arith) (either-low (eqb tag 10) stepsField _ (omega arith) (omega arith))))))))))
@@ -45,18 +52,18 @@ module _ (f : Field) {l : List ℕ} {at tag : ℕ} {h : Tested} (found : checkOf
 -- The test of a field depends on its length and on the test of its values alone. So that of a plain field is that of every field with its
 -- length whose values are not tested: those of tags 6, 7 and 8, and what stands for any tag above 10.
 module _ (n t : ℕ) {l : List ℕ} {at tag : ℕ} {w : Walked} where
-  long-tried : (j : ℕ) → j < 3 → Tries (plainField (4 * n)) tag l at w → Tries (fieldFor (6 + j) n t) tag l at w
+  long-tried : (j : ℕ) → j < 3 → Tries (plainField (4 * n)) tag l at w → Tries (fieldFor l (6 + j) n t) tag l at w
   long-tried zero h T = record { finds = T .finds; goes-on = T .goes-on }
   long-tried (suc zero) h T = record { finds = T .finds; goes-on = T .goes-on }
   long-tried (suc (suc zero)) h T = record { finds = T .finds; goes-on = T .goes-on }
   long-tried (suc (suc (suc j))) h T = absurd (omega arith)
 
-  pub longs-tried : (k : ℕ) → 6 ≤ k → k < 9 → Tries (plainField (4 * n)) tag l at w → Tries (fieldFor k n t) tag l at w
+  pub longs-tried : (k : ℕ) → 6 ≤ k → k < 9 → Tries (plainField (4 * n)) tag l at w → Tries (fieldFor l k n t) tag l at w
   longs-tried k h b T =
       let same : 6 + (k - 6) ≡ k = omega arith in
-      subst (λ (m : ℕ). Tries (fieldFor m n t) tag l at w) same (long-tried (k - 6) (omega arith) T)
+      subst (λ (m : ℕ). Tries (fieldFor l m n t) tag l at w) same (long-tried (k - 6) (omega arith) T)
 
-  pub unknown-tried : (k : ℕ) → 10 < k → Tries unknown tag l at w → Tries (fieldFor k n t) tag l at w
+  pub unknown-tried : (k : ℕ) → 10 < k → Tries unknown tag l at w → Tries (fieldFor l k n t) tag l at w
   unknown-tried k h T =
       rw (
         other 1 (omega arith),
@@ -78,7 +85,7 @@ module _ (n t : ℕ) {l : List ℕ} {at tag : ℕ} {w : Walked} where
 -- its values count.
 module _ (l : List ℕ) (at tag n t : ℕ) where
   abbrev named : ℕ → Field
-  named k = fieldFor k n t
+  named k = fieldFor l k n t
 
   abbrev headed : ℕ → Check
   headed k = fieldAt l at tag (named k .size)

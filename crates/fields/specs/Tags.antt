@@ -1,4 +1,4 @@
--- The field that a tag names, in a file of either kind of film, with n cells and t thicknesses; and how far a walk over such fields may come.
+-- The field that a tag names, in a file of either kind of film, with n cells and t thicknesses, and as many weights as it has; and how far a walk over such fields may come.
 use mathlib.Core.Path.{_≡_}
 use mathlib.Core.Bool.{cond}
 use mathlib.Core.List.{List}
@@ -6,7 +6,7 @@ use Prim.Native.Nat.{ℕ, _≤_}
 use lib.Dec.{eqb}
 use Rattle.model.specs.Refusals.{Check, pass, _orElse_, checkOf}
 use Rattle.model.specs.Fields.{Field, body, behind, fieldAt}
-use Rattle.model.specs.File.{shapeField, ceilingField, weightsField, thicknessesField, wedgeField, stepsField}
+use Rattle.model.specs.File.{shapeField, ceilingField, weightsField, thicknessesField, wedgeField, stepsField, carried}
 use Rattle.model.specs.CoefficientFile.{diagonalsField, rightsField, upsField, sourcesField}
 use Rattle.fields.specs.declared.Walked.{Walked}
 
@@ -17,11 +17,11 @@ plainField size = record { tag = 0; size = size; check = λ bytes at. pass }
 abbrev pub unknown : Field
 unknown = plainField 0
 
-abbrev pub fieldFor : ℕ → ℕ → ℕ → Field
-fieldFor tag n t =
+abbrev pub fieldFor : List ℕ → ℕ → ℕ → ℕ → Field
+fieldFor bytes tag n t =
     cond (eqb tag 1) shapeField
     (cond (eqb tag 2) ceilingField
-    (cond (eqb tag 3) (weightsField n)
+    (cond (eqb tag 3) (weightsField (carried bytes n))
     (cond (eqb tag 4) (thicknessesField t)
     (cond (eqb tag 5) wedgeField
     (cond (eqb tag 6) (diagonalsField n)

@@ -142,12 +142,12 @@ fn plain_field(file: &[u8], at: usize, tag: u8, size: usize) -> Walked
 // The field that should have that tag, at an offset: the byte that stands there chooses which one is tested.
 pub fn field_test(file: &[u8], at: usize, tag: u8, n: usize, t: usize) -> Walked
     requires { ⌜ Room at n t ⌝ }
-    ensures { λ w. ⌜ Tries (fieldFor tag n t) tag (now (file .entry)) at w ⌝ }
+    ensures { λ w. ⌜ Tries (fieldFor (now (file .entry)) tag n t) tag (now (file .entry)) at w ⌝ }
 {
     match words::numbers::byte_at(file, at) {
         1 => shape_field(file, at, tag),
         2 => ceiling_field(file, at, tag),
-        3 => weights_field(file, at, tag, n),
+        3 => weights_field(file, at, tag, headers::carried(file, n)),
         4 => thicknesses_field(file, at, tag, t),
         5 => wedge_field(file, at, tag),
         6..=8 => plain_field(file, at, tag, 4 * n),

@@ -1,10 +1,12 @@
-// The header of a field in a film file: tag and length, and whether the body is there. Internal: the fields of every kind of file call it.
+// The header of a field in a film file: tag and length, and whether the body is there; and whether field 03 has the film's weights. Internal: the fields of
+// every kind of file call it, and the readers.
 //
-// Proved: what is found is what crate `model` says of a header (`fieldAt`), at every offset of every file.
+// Proved: what is found is what crate `model` says of a header (`fieldAt`), at every offset of every file, and of the weights (`weightless`, `carried`).
 ghost use mathlib.Core.Path.{_≡_};
 ghost use Prim.Native.Nat.{_≤_};
 ghost use Rattle.model.specs.Refusals.{checkOf};
 ghost use Rattle.model.specs.Fields.{fieldAt};
+ghost use Rattle.model.specs.File.{weightless as weightlessIn, carried as carriedOf};
 use fault::Fault;
 use model::Refusal;
 use model::Tested;
@@ -27,4 +29,21 @@ pub fn header_test(file: &[u8], at: usize, tag: u8, size: usize) -> Tested
     let wrong_length = refusals::fail_if(length != size, Fault::WrongLength, at);
     let body = refusals::fail_if(end < at + 3 + size, Fault::Truncated, end);
     refusals::or_else(unexpected, refusals::or_else(wrong_length, body))
+}
+
+// Whether a file leaves the weights to the program: the length of field 03, which stands behind shape and ceiling, is 0.
+pub fn weightless(file: &[u8]) -> bool
+    ensures { λ r. ⌜ r ≡ weightlessIn (now (file .entry)) ⌝ }
+{
+    words::numbers::word_at(file, 13) == 0
+}
+
+// As many of n weights as the file has: all, or none.
+pub fn carried(file: &[u8], n: usize) -> usize
+    ensures { λ r. ⌜ r ≡ carriedOf (now (file .entry)) n ⌝ }
+{
+    if weightless(file) {
+        return 0;
+    }
+    n
 }

@@ -1,10 +1,10 @@
--- Reading and writing coefficient film files are inverse (document 02, W1), by the same laws of fields as in `File`; and a converted thickness
--- film reads as the film that its numbers form.
+-- Reading and writing coefficient film files are inverse (document 02, W1), by the same laws of fields as in `File`, and so with files that leave the weights
+-- to the program (W5); and a converted thickness film reads as the film that its numbers form.
 use mathlib.Core.Path.{_≡_, refl, sym, ap, ap₂, _∙_, subst}
-use mathlib.Core.Bool.{true}
+use mathlib.Core.Bool.{Bool, true, false, cond}
 use mathlib.Core.List.{List, [], _∷_, _++_}
 use Prim.Native.Nat.{ℕ, _+_, _*_, _≤_, _<_}
-use native.Mathlib.Nat.{zero-add, mul-le-mul}
+use native.Mathlib.Nat.{zero-add, mul-le-mul, mul-pos}
 use native.Mathlib.Omega.{arith}
 use borrow.Author.Tests.{eqb-false, eq-eqb, ne-eqb}
 use lib.Dec.{eqb}
@@ -14,20 +14,22 @@ use Rattle.model.specs.Limits.{sideLimit, ceilingLimit}
 use Rattle.model.specs.Lists.{tabulate}
 use Rattle.model.specs.Refusals.{Check, pass, fail, _orElse_}
 use Rattle.model.specs.Gauge.{Gauge}
-use Rattle.model.specs.Film.{Film, sizeOf, diagonalAt, rightAt, upAt, sourceAt}
+use Rattle.model.specs.Film.{Film, sizeOf, weighted, diagonalAt, rightAt, upAt, sourceAt}
 use Rattle.model.specs.Coefficients.{formed}
-use Rattle.model.specs.Checks.{outside, shapeCheck, ceilingCheck, filmFits, coefficientCheck, weightCheck, dominanceCheck, sizeCheck, notDominant}
+use Rattle.model.specs.Checks.{outside, shapeCheck, ceilingCheck, filmFits, coefficientCheck, weightCheck, dominanceCheck, sizeCheck, badCoefficient, notDominant}
 use Rattle.model.specs.Accepted.{Sized, Limited, Accepted}
+use Rattle.model.specs.Weighing.{foundWeights, weightsFor, heldCheck, LeastWeights}
 use Rattle.model.specs.Result.{answered, answerBy}
-use Rattle.model.specs.Bytes.{word}
-use Rattle.model.specs.Fields.{Field, bytesOf}
-use Rattle.model.specs.File.{rowsOffset, columnsOffset, ceilingOffset, weightsOffset, cellsIn, fieldsCheck, weightBytes, weightsCheck, gaugeCheck, Bytes, Values}
-use Rattle.model.specs.CoefficientFile.{diagonalsField, rightsField, upsField, sourcesField, coefficientFields, diagonalsOffset, rightsOffset, upsOffset, sourcesOffset, coefficientEnd, filmIn, coefficientFileCheck, readCoefficients, coefficientBodies, coefficientFileOf, writerCheck, CoefficientValues}
+use Rattle.model.specs.Bytes.{byteAt, wordAt, longAt, word, long, listed}
+use Rattle.model.specs.Fields.{Field, field, fieldsEnd, bytesOf}
+use Rattle.model.specs.File.{rowsOffset, columnsOffset, ceilingOffset, weightsOffset, cellsIn, weightless, fieldsCheck, weightBytes, weightsCheck, gaugeCheck, Bytes, Values, InPlace}
+use Rattle.model.specs.CoefficientFile.{diagonalsField, rightsField, upsField, sourcesField, coefficientFields, diagonalsOffset, rightsOffset, upsOffset, sourcesOffset, coefficientEnd, longsAt, signedQuadsAt, coefficientFileCheck, readCoefficients, sourceBytes, coefficientBodies, coefficientFileOf, writerCheck, CoefficientValues}
 use Rattle.model.proofs.Lists.{tabulate-length, tabulate-below}
 use Rattle.model.proofs.Checks.{within, orElse-parts, pass-both, failIf-pass, failFirst-pass, fits-lengths, coefficient-passes}
 use Rattle.model.proofs.Codes.{bytes-nil, bytes-cons, word-code, long-code, signed-quad-code, within-abs, listed-length, listed-writes, listed-bytes}
 use Rattle.model.proofs.Fields.{Passes, fields-pass, pass-fields, bodiesIn, whole-file, begins-whole, Fit, Laid, laid, bytes-length}
-use Rattle.model.proofs.Opening.{Shaped, shape-passes, Continues, continues, list-inside, Opened, opening-reads}
+use Rattle.model.proofs.Opening.{Shaped, shape-passes, has-weights, Continues, continues, list-inside, Opened, opening-reads}
+use Rattle.model.proofs.Weighing.{ones, found-least, found-accepted}
 use Rattle.model.proofs.File.{weights-alike, fields-bytes}
 use Rattle.model.proofs.Forming.{outside-false, pass-first, accepted-passes, formed-accepted}
 
@@ -111,11 +113,46 @@ record Writes (f : Film) : Type 0 where
 writes : (f : Film) → CoefficientValues f → writerCheck f true ≡ pass → Writes f
 writes f v e = record { accepted = writer-accepted f (v .fits) (writer-passes f e); word = λ i h. v .weight-word i }
 
+-- ---- the numbers of a file with so many weights
+
+abbrev pub coefficientsBy : ℕ → List ℕ → Film
+coefficientsBy w l =
+    let n = cellsIn l in
+    record {
+      rows = byteAt l rowsOffset;
+      columns = byteAt l columnsOffset;
+      ceiling = longAt l ceilingOffset;
+      weights = tabulate w (λ i. wordAt l (weightsOffset + 2 * i));
+      diagonals = longsAt l (diagonalsOffset w) n;
+      rights = longsAt l (rightsOffset w n) n;
+      ups = longsAt l (upsOffset w n) n;
+      sources = signedQuadsAt l (sourcesOffset w n) n;
+    }
+
+-- a file with a weight for each cell
+abbrev pub standing : List ℕ → Film
+standing l = coefficientsBy (cellsIn l) l
+
+-- what is read, by whether the file leaves the weights to the program
+module _ (none : Bool) (l : List ℕ) where
+  -- as many weights as it has
+  abbrev hasOf : ℕ
+  hasOf = cond none 0 (cellsIn l)
+
+  abbrev fieldsBy : List Field
+  fieldsBy = coefficientFields hasOf (cellsIn l)
+
+  abbrev checkBy : Check
+  checkBy = fieldsCheck fieldsBy l orElse coefficientCheck (coefficientsBy hasOf l) orElse heldCheck none (coefficientsBy hasOf l)
+
+  abbrev filmBy : Film
+  filmBy = weighted (coefficientsBy hasOf l) (weightsFor none (coefficientsBy hasOf l))
+
 -- ---- what is written reads back
 
 module _ (f : Film) (w : Writes f) where
   abbrev fieldsOf : List Field
-  fieldsOf = coefficientFields (sizeOf f)
+  fieldsOf = coefficientFields (sizeOf f) (sizeOf f)
 
   sized : Sized f
   sized = w .accepted .limited .sized
@@ -152,7 +189,7 @@ module _ (f : Film) (w : Writes f) where
   up-long i h = omega (arith, w .accepted .limited .cell i h .up-low)
 
   -- where the film's fields stand in a file, the film that stands there is this one
-  laid-reads : (l : List ℕ) → Laid fieldsOf (coefficientBodies f) l 0 → filmIn l ≡ f
+  laid-reads : (l : List ℕ) → Laid fieldsOf (coefficientBodies f) l 0 → standing l ≡ f
   laid-reads l L = λ k.
       record {
         rows = opened .rows-are k;
@@ -168,16 +205,16 @@ module _ (f : Film) (w : Writes f) where
       opened : Opened (f .rows) (f .columns) (f .ceiling) (f .weights) l
       opened = opening-reads (f .rows) (f .columns) (f .ceiling) (f .weights) l (sized .weights-len) (omega (arith, sized .ceiling-low)) (w .word) (L .0) (L .1 .0) (L .1 .1 .0)
 
-      diagonals : filmIn l .diagonals ≡ f .diagonals
+      diagonals : standing l .diagonals ≡ f .diagonals
       diagonals = rw (opened .rows-are, opened .columns-are) (list-inside long-code (f .diagonals) 0 (sizeOf f) (sized .diagonals-len) diagonal-long (L .1 .1 .1 .0))
 
-      rights : filmIn l .rights ≡ f .rights
+      rights : standing l .rights ≡ f .rights
       rights = rw (opened .rows-are, opened .columns-are) (list-inside long-code (f .rights) 0 (sizeOf f) (sized .rights-len) right-long (L .1 .1 .1 .1 .0))
 
-      ups : filmIn l .ups ≡ f .ups
+      ups : standing l .ups ≡ f .ups
       ups = rw (opened .rows-are, opened .columns-are) (list-inside long-code (f .ups) 0 (sizeOf f) (sized .ups-len) up-long (L .1 .1 .1 .1 .1 .0))
 
-      sources : filmIn l .sources ≡ f .sources
+      sources : standing l .sources ≡ f .sources
       sources =
           rw (opened .rows-are, opened .columns-are)
           (list-inside signed-quad-code (f .sources) (pos 0) (sizeOf f) (sized .sources-len)
@@ -191,16 +228,20 @@ module _ (f : Film) (w : Writes f) where
   unfolding coefficientFileOf
   written-length = sym (zero-add _) ∙ bytes-length fieldsOf (coefficientBodies f) 0 bodies-fit
 
+  -- it has its weights
+  written-weights : weightless (coefficientFileOf f) ≡ false
+  written-weights = has-weights (coefficientFileOf f) (sizeOf f) (film-laid .1 .1 .0 .passes) (mul-pos (sized .rows-some) (sized .columns-some))
+
   -- The writer's file is accepted, and its film is the one that was written.
   film-reads : readCoefficients (coefficientFileOf f) ≡ answered f
   unfolding coefficientFileCheck
   film-reads =
       let l = coefficientFileOf f in
-      let same : filmIn l ≡ f = laid-reads l film-laid in
+      let same : standing l ≡ f = laid-reads l film-laid in
       let p = subst WriterPassed (sym same) (accepted-writer f (w .accepted)) in
-      let L : Laid (coefficientFields (cellsIn l)) (coefficientBodies f) l 0 =
-      subst (λ (h : Film). Laid (coefficientFields (sizeOf h)) (coefficientBodies f) l 0) (sym same) film-laid in
-      let walks : Passes (coefficientFields (cellsIn l)) l 0 = (
+      let L : Laid (coefficientFields (cellsIn l) (cellsIn l)) (coefficientBodies f) l 0 =
+      subst (λ (h : Film). Laid (coefficientFields (sizeOf h) (sizeOf h)) (coefficientBodies f) l 0) (sym same) film-laid in
+      let walks : Passes (coefficientFields (cellsIn l) (cellsIn l)) l 0 = (
         L .0 .passes,
         p .shape,
         (
@@ -218,8 +259,9 @@ module _ (f : Film) (w : Writes f) where
         ),
       ) in
       let end : length l ≡ coefficientEnd (cellsIn l) = written-length ∙ ap (λ (h : Film). coefficientEnd (sizeOf h)) (sym same) in
-      let fields = pass-fields (coefficientFields (cellsIn l)) l walks (omega (arith, end)) in
-      ap₂ answerBy (pass-both fields (pass-both (p .coefficients) (p .dominant))) same
+      let fields = pass-fields (coefficientFields (cellsIn l) (cellsIn l)) l walks (omega (arith, end)) in
+      ap (λ none. answerBy (checkBy none l) (filmBy none l)) written-weights
+      ∙ ap₂ answerBy (pass-both fields (pass-both (p .coefficients) (p .dominant))) same
 
   film-bytes : Bytes (coefficientFileOf f)
   unfolding coefficientFileOf
@@ -276,67 +318,97 @@ coefficients-written f v e = film-reads f (writes f v e)
 
 -- ---- what was read is written back
 
+-- lists of a file have their lengths, and shape and ceiling have passed with its fields: so a film with these numbers is sized, whatever its weights
+module _ (l : List ℕ) (w : ℕ) (weights : List ℕ) (e : length weights ≡ cellsIn l) where
+  pub fits-in : filmFits (weighted (coefficientsBy w l) weights) ≡ true
+  unfolding filmFits
+  fits-in =
+      let f = coefficientsBy w l in
+      let diagonals : length (f .diagonals) ≡ sizeOf f = tabulate-length _ _ in
+      let rights : length (f .rights) ≡ sizeOf f = tabulate-length _ _ in
+      let ups : length (f .ups) ≡ sizeOf f = tabulate-length _ _ in
+      let sources : length (f .sources) ≡ sizeOf f = tabulate-length _ _ in
+      rw (eq-eqb _ _ e, eq-eqb _ _ diagonals, eq-eqb _ _ rights, eq-eqb _ _ ups, eq-eqb _ _ sources)
+
+  pub sized-in : Passes (coefficientFields w (cellsIn l)) l 0 → Sized (weighted (coefficientsBy w l) weights)
+  sized-in p = passed-sized (weighted (coefficientsBy w l) weights) fits-in (p .1) (p .2 .1)
+
+  -- the test of coefficients does not look at weights
+  pub limited-in : Passes (coefficientFields w (cellsIn l)) l 0 → coefficientCheck (coefficientsBy w l) ≡ pass → Limited (weighted (coefficientsBy w l) weights)
+  unfolding coefficientCheck badCoefficient
+  limited-in p c = coefficient-passes (weighted (coefficientsBy w l) weights) (sized-in p) c
+
 -- what it says that a file has passed all its tests
-record FilePassed (l : List ℕ) : Type 0 where
-  fields : Passes (coefficientFields (cellsIn l)) l 0
-  ends : length l ≤ coefficientEnd (cellsIn l)
-  passed : WriterPassed (filmIn l)
+record PassedBy (none : Bool) (l : List ℕ) : Type 0 where
+  fields : Passes (fieldsBy none l) l 0
+  ends : length l ≤ fieldsEnd (fieldsBy none l) 0
+  coefficients : coefficientCheck (coefficientsBy (hasOf none l) l) ≡ pass
+  held : heldCheck none (coefficientsBy (hasOf none l) l) ≡ pass
 
-file-passes : (l : List ℕ) → coefficientFileCheck l ≡ pass → FilePassed l
-unfolding coefficientFileCheck
-file-passes l e =
-    let a = orElse-parts (fieldsCheck (coefficientFields (cellsIn l)) l) _ e in
-    let b = fields-pass (coefficientFields (cellsIn l)) l (a .0) in
-    let c = orElse-parts (coefficientCheck (filmIn l)) _ (a .1) in
-    let p = b .0 in
-    record {
-      fields = p;
-      ends = b .1;
-      passed = record { shape = p .1; ceiling = p .2 .1; weights = weights-alike l (cellsIn l) weightsOffset ∙ p .2 .2 .1; coefficients = c .0; dominant = c .1 };
-    }
+passed-by : (none : Bool) (l : List ℕ) → checkBy none l ≡ pass → PassedBy none l
+passed-by none l e =
+    let a = orElse-parts (fieldsCheck (fieldsBy none l) l) _ e in
+    let b = fields-pass (fieldsBy none l) l (a .0) in
+    let c = orElse-parts (coefficientCheck (coefficientsBy (hasOf none l) l)) _ (a .1) in
+    record { fields = b .0; ends = b .1; coefficients = c .0; held = c .1 }
 
-pub fits-in : (l : List ℕ) → filmFits (filmIn l) ≡ true
-unfolding filmFits
-fits-in l =
-    let f = filmIn l in
-    let weights : length (f .weights) ≡ sizeOf f = tabulate-length _ _ in
-    let diagonals : length (f .diagonals) ≡ sizeOf f = tabulate-length _ _ in
-    let rights : length (f .rights) ≡ sizeOf f = tabulate-length _ _ in
-    let ups : length (f .ups) ≡ sizeOf f = tabulate-length _ _ in
-    let sources : length (f .sources) ≡ sizeOf f = tabulate-length _ _ in
-    rw (eq-eqb _ _ weights, eq-eqb _ _ diagonals, eq-eqb _ _ rights, eq-eqb _ _ ups, eq-eqb _ _ sources)
+-- weights that are found are the least, and with them or with its own the film is accepted
+found-limited : (l : List ℕ) → PassedBy true l → Limited (weighted (coefficientsBy 0 l) (ones (cellsIn l)))
+found-limited l P = limited-in l 0 (ones (cellsIn l)) (tabulate-length _ _) (P .fields) (P .coefficients)
+
+found-in : (l : List ℕ) → PassedBy true l → LeastWeights (coefficientsBy 0 l) (foundWeights (coefficientsBy 0 l))
+found-in l P = found-least (coefficientsBy 0 l) (ones (cellsIn l)) (found-limited l P) (P .held)
+
+film-held : (none : Bool) (l : List ℕ) → PassedBy none l → Accepted (filmBy none l)
+film-held true l P = found-accepted (coefficientsBy 0 l) (ones (cellsIn l)) (found-limited l P) (P .held)
+film-held false l P =
+    writer-accepted (standing l) (fits-in l (cellsIn l) (standing l .weights) (tabulate-length _ _))
+    (record {
+      shape = P .fields .1;
+      ceiling = P .fields .2 .1;
+      weights = weights-alike l (cellsIn l) weightsOffset ∙ P .fields .2 .2 .1;
+      coefficients = P .coefficients;
+      dominant = P .held;
+    })
 
 module _ {l : List ℕ} (B : Bytes l) where
-  bodies-in : bodiesIn (coefficientFields (cellsIn l)) l 0 ≡ coefficientBodies (filmIn l)
-  bodies-in =
+  bodies-in : (w : ℕ) → bodiesIn (coefficientFields w (cellsIn l)) l 0 ≡ coefficientBodies (coefficientsBy w l)
+  bodies-in w =
       let n = cellsIn l in
       let ceiling = long-code .writes B ceilingOffset in
-      let weights = listed-writes word-code B n weightsOffset in
-      let diagonals = listed-writes long-code B n (diagonalsOffset n) in
-      let rights = listed-writes long-code B n (rightsOffset n) in
-      let ups = listed-writes long-code B n (upsOffset n) in
-      let sources = listed-writes signed-quad-code B n (sourcesOffset n) in
+      let weights = listed-writes word-code B w weightsOffset in
+      let diagonals = listed-writes long-code B n (diagonalsOffset w) in
+      let rights = listed-writes long-code B n (rightsOffset w n) in
+      let ups = listed-writes long-code B n (upsOffset w n) in
+      let sources = listed-writes signed-quad-code B n (sourcesOffset w n) in
       λ k.
-      (filmIn l .rows ∷ filmIn l .columns ∷ []) ∷ ceiling k ∷ weights k ∷ diagonals k ∷ rights k ∷ ups k ∷ sources k ∷ []
+      (coefficientsBy w l .rows ∷ coefficientsBy w l .columns ∷ []) ∷ ceiling k ∷ weights k ∷ diagonals k ∷ rights k ∷ ups k ∷ sources k ∷ []
 
-  fields-write : FilePassed l → coefficientFileOf (filmIn l) ≡ l
-  unfolding coefficientFileOf
-  fields-write F = ap (bytesOf (coefficientFields (cellsIn l))) (sym bodies-in) ∙ whole-file B (coefficientFields (cellsIn l)) (F .fields) (F .ends)
+  fields-are : (w : ℕ) → Passes (coefficientFields w (cellsIn l)) l 0 → length l ≤ fieldsEnd (coefficientFields w (cellsIn l)) 0
+      → bytesOf (coefficientFields w (cellsIn l)) (coefficientBodies (coefficientsBy w l)) ≡ l
+  fields-are w p h =
+      ap (bytesOf (coefficientFields w (cellsIn l))) (sym (bodies-in w)) ∙ whole-file B (coefficientFields w (cellsIn l)) p h
 
-  values-in : CoefficientValues (filmIn l)
-  values-in = record { fits = fits-in l; weight-word = tabulate-below (cellsIn l) _ 65536 (omega arith) (λ i. word-code .fits B (weightsOffset + 2 * i)) }
+  -- weights have two bytes, those that are found too
+  weights-fit : (none : Bool) → PassedBy none l → (i : ℕ) → getD (filmBy none l .weights) i 0 < 65536
+  weights-fit true P = λ i. omega (arith, found-in l P .low i)
+  weights-fit false P = tabulate-below (cellsIn l) _ 65536 (omega arith) (λ i. word-code .fits B (weightsOffset + 2 * i))
 
--- an accepted file has passed its tests, and its film is the one that stands in it
-record ReadAs (l : List ℕ) (f : Film) : Type 0 where
-  passed : FilePassed l
-  same : filmIn l ≡ f
+-- an accepted file has passed its tests, and this is its film
+record ReadAs (none : Bool) (l : List ℕ) (f : Film) : Type 0 where
+  passed : PassedBy none l
+  same : filmBy none l ≡ f
 
-read-as : (l : List ℕ) (f : Film) → readCoefficients l ≡ answered f → ReadAs l f
-read-as l f e = go (coefficientFileCheck l) refl e
+read-by : (none : Bool) (l : List ℕ) (f : Film) → answerBy (checkBy none l) (filmBy none l) ≡ answered f → ReadAs none l f
+read-by none l f e = go (checkBy none l) refl e
   where
-    go : (c : Check) → coefficientFileCheck l ≡ c → answerBy c (filmIn l) ≡ answered f → ReadAs l f
-    go pass p e = record { passed = file-passes l p; same = cc }
+    go : (c : Check) → checkBy none l ≡ c → answerBy c (filmBy none l) ≡ answered f → ReadAs none l f
+    go pass p e = record { passed = passed-by none l p; same = cc }
     go (fail number place) p e = let z : _≡_ {A = ℕ} 0 1 = cc in absurd (omega arith)
+
+read-as : (l : List ℕ) (f : Film) → readCoefficients l ≡ answered f → ReadAs (weightless l) l f
+unfolding coefficientFileCheck
+read-as l f e = read-by (weightless l) l f e
 
 -- an accepted file has tag 06 behind the weights
 pub coefficients-continue : (bytes : List ℕ) (f : Film) → readCoefficients bytes ≡ answered f → Continues bytes 6
@@ -344,21 +416,48 @@ coefficients-continue bytes f e =
     let n = cellsIn bytes in
     continues bytes (diagonalsField n) (rightsField n ∷ upsField n ∷ sourcesField n ∷ []) (read-as bytes f e .passed .fields)
 
--- Writing what was read gives the file's own bytes, ..
-pub coefficients-write : (bytes : List ℕ) (f : Film) → Bytes bytes → readCoefficients bytes ≡ answered f → coefficientFileOf f ≡ bytes
-coefficients-write bytes f B e = let r = read-as bytes f e in ap coefficientFileOf (sym (r .same)) ∙ fields-write B (r .passed)
+-- What was read is accepted by every call that takes coefficients, ..
+pub coefficients-accepted : (bytes : List ℕ) (f : Film) → readCoefficients bytes ≡ answered f → Accepted f
+coefficients-accepted bytes f e = let r = read-as bytes f e in subst Accepted (r .same) (film-held (weightless bytes) bytes (r .passed))
 
--- .. what was read passes the writer's tests, ..
+-- .. and passes the writer's tests.
 pub coefficients-values : (bytes : List ℕ) (f : Film) → Bytes bytes → readCoefficients bytes ≡ answered f → CoefficientValues f × (writerCheck f true ≡ pass)
 coefficients-values bytes f B e =
     let r = read-as bytes f e in
-    subst (λ (h : Film). CoefficientValues h × (writerCheck h true ≡ pass)) (r .same) (values-in B, writer-tests (filmIn bytes) (r .passed .passed))
+    let A = coefficients-accepted bytes f e in
+    let words = subst (λ (h : Film). (i : ℕ) → getD (h .weights) i 0 < 65536) (r .same) (weights-fit B (weightless bytes) (r .passed)) in
+    (record { fits = accepted-fits f A; weight-word = words }, writer-tests f (accepted-writer f A))
 
--- .. and is accepted by every call that takes coefficients.
-pub coefficients-accepted : (bytes : List ℕ) (f : Film) → readCoefficients bytes ≡ answered f → Accepted f
-coefficients-accepted bytes f e =
-    let r = read-as bytes f e in
-    subst Accepted (r .same) (writer-accepted (filmIn bytes) (fits-in bytes) (r .passed .passed))
+-- Writing what was read gives the file's own bytes, if it has its weights; ..
+pub coefficients-write : (bytes : List ℕ) (f : Film) → Bytes bytes → weightless bytes ≡ false → readCoefficients bytes ≡ answered f → coefficientFileOf f ≡ bytes
+unfolding coefficientFileOf coefficientFileCheck
+coefficients-write bytes f B c e =
+    let r = read-by false bytes f (subst (λ none. answerBy (checkBy none bytes) (filmBy none bytes) ≡ answered f) c e) in
+    ap coefficientFileOf (sym (r .same)) ∙ fields-are B (cellsIn bytes) (r .passed .fields) (r .passed .ends)
+
+-- .. and if it has none, the file with the found weights in place, which reads to the same film.
+pub coefficients-placed : (bytes : List ℕ) (f : Film) → Bytes bytes → weightless bytes ≡ true → readCoefficients bytes ≡ answered f → InPlace (f .weights) bytes (coefficientFileOf f)
+unfolding coefficientFileOf coefficientFileCheck
+coefficients-placed bytes f B c e =
+    let r = read-by true bytes f (subst (λ none. answerBy (checkBy none bytes) (filmBy none bytes) ≡ answered f) c e) in
+    subst (λ (h : Film). InPlace (h .weights) bytes (coefficientFileOf h)) (r .same) (placed (r .passed))
+  where
+    placed : PassedBy true bytes → InPlace (filmBy true bytes .weights) bytes (coefficientFileOf (filmBy true bytes))
+    placed P =
+        let h = coefficientsBy 0 bytes in
+        let n = cellsIn bytes in
+        let size : 2 * n ≡ 2 * length (filmBy true bytes .weights) = ap (λ (n : ℕ). 2 * n) (sym (found-in bytes P .holds .len)) in
+        let back = bytesOf (diagonalsField n ∷ rightsField n ∷ upsField n ∷ sourcesField n ∷ []) (listed long (h .diagonals) ∷ listed long (h .rights) ∷ listed long (h .ups) ∷ listed sourceBytes (h .sources) ∷ []) in
+        record {
+          front = field 1 2 (h .rows ∷ h .columns ∷ []) ++ field 2 4 (long (h .ceiling));
+          back = back;
+          front-len = refl;
+          was = sym (fields-are B 0 (P .fields) (P .ends));
+          is = ap (λ (k : ℕ). field 1 2 (h .rows ∷ h .columns ∷ []) ++ field 2 4 (long (h .ceiling)) ++ field 3 k (weightBytes (filmBy true bytes .weights)) ++ back) size;
+        }
+
+pub placed-coefficients : (bytes : List ℕ) (f : Film) → Bytes bytes → readCoefficients bytes ≡ answered f → readCoefficients (coefficientFileOf f) ≡ readCoefficients bytes
+placed-coefficients bytes f B e = let v = coefficients-values bytes f B e in coefficients-written f (v .0) (v .1) ∙ sym e
 
 -- ---- what is converted
 

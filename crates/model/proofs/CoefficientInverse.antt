@@ -1,8 +1,8 @@
 -- Reader, writer and converter of coefficient films, as promises of the calls: from nothing but the records that stand in their `ensures`.
 use mathlib.Core.Path.{_≡_, refl, sym, ap, _∙_, subst}
-use mathlib.Core.Bool.{Bool, true, not, _&&_}
+use mathlib.Core.Bool.{Bool, true, false, not, _&&_}
 use mathlib.Core.List.{List}
-use Prim.Native.Nat.{ℕ, _<_}
+use Prim.Native.Nat.{ℕ, _+_, _*_, _<_}
 use native.Mathlib.Omega.{arith}
 use borrow.Author.Tests.{eq-eqb, not-false}
 use lib.Dec.{eqb}
@@ -16,16 +16,17 @@ use Rattle.model.specs.Film.{Film, filmOf, sizeOf}
 use Rattle.model.specs.Coefficients.{formed}
 use Rattle.model.specs.Checks.{shapeCheck, filmFits}
 use Rattle.model.specs.Result.{Answer, answered, refused, answerBy, Gives}
-use Rattle.model.specs.File.{cells, ringed, rowsOffset, columnsOffset, cellsIn, readFilm, Bytes, Values}
+use Rattle.model.specs.File.{cells, ringed, rowsOffset, columnsOffset, cellsIn, weightless, readFilm, Bytes, Values, InPlace}
 use Rattle.model.specs.FileCalls.{film, laidOver, Loads, used}
 use Rattle.model.specs.CoefficientFile.{coefficientEnd, filmIn, coefficientFileCheck, readCoefficients, coefficientFileOf, writerCheck, CoefficientValues}
 use Rattle.model.specs.CoefficientCalls.{filmHead, buffersFit, coefficientLoadCheck, LoadsFilm, LoadsCoefficients, usedFilm, coefficientSaveCheck, coefficientSaveCall, convertCheck, convertCall}
 use Rattle.model.specs.EitherFile.{readEither}
 use Rattle.model.proofs.Lists.{tabulate-length}
 use Rattle.model.proofs.Checks.{and-parts, orElse-parts, failIf-pass}
+use Rattle.model.proofs.Opening.{placed-length}
 use Rattle.model.proofs.File.{read-values}
 use Rattle.model.proofs.Inverse.{answer-passed, save-gauge, laid, refused-same, read-film}
-use Rattle.model.proofs.CoefficientFile.{coefficients-length, coefficients-written, coefficients-write, coefficients-values, converted-reads, converted-length}
+use Rattle.model.proofs.CoefficientFile.{coefficients-length, coefficients-written, coefficients-write, coefficients-accepted, coefficients-values, coefficients-placed, placed-coefficients, converted-reads, converted-length}
 use Rattle.model.proofs.EitherFile.{converted-same}
 
 -- ---- the reader
@@ -41,14 +42,15 @@ module _ (bytes weights diagonals rights ups : List ℕ) (sources : List ℤ) {w
       let loaded : coefficientLoadCheck bytes weights diagonals rights ups sources ≡ pass = told .0 in
       let head : h ≡ filmHead f = told .1 in
       let accepts : coefficientFileCheck bytes ≡ pass = orElse-parts (failIf (not (buffersFit weights diagonals rights ups sources)) 10 0) _ loaded .1 in
-      let ws : take n weights′ ≡ f .weights = laid (f .weights) weights (rw loaded at (L .weights-are)) (tabulate-length n _) in
+      let reads : readCoefficients bytes ≡ answered f = ap (λ c. answerBy c f) accepts in
+      let ws : take n weights′ ≡ f .weights = laid (f .weights) weights (rw loaded at (L .weights-are)) (coefficients-accepted bytes f reads .limited .sized .weights-len) in
       let ds : take n diagonals′ ≡ f .diagonals = laid (f .diagonals) diagonals (rw loaded at (L .diagonals-are)) (tabulate-length n _) in
       let rs : take n rights′ ≡ f .rights = laid (f .rights) rights (rw loaded at (L .rights-are)) (tabulate-length n _) in
       let us : take n ups′ ≡ f .ups = laid (f .ups) ups (rw loaded at (L .ups-are)) (tabulate-length n _) in
       let ss : take n sources′ ≡ f .sources = laid (f .sources) sources (rw loaded at (L .sources-are)) (tabulate-length n _) in
       let same : usedFilm h weights′ diagonals′ rights′ ups′ sources′ ≡ f =
       ap (λ x. usedFilm x weights′ diagonals′ rights′ ups′ sources′) head ∙ (λ k. filmOf (filmHead f) (ws k) (ds k) (rs k) (us k) (ss k)) in
-      ap (λ c. answerBy c f) accepts ∙ ap answered (sym same)
+      reads ∙ ap answered (sym same)
 
   -- .. or the file's refusal.
   pub coefficients-refusal : (number place : ℕ) → buffersFit weights diagonals rights ups sources ≡ true
@@ -102,20 +104,37 @@ module _ {weights diagonals rights ups weights′ diagonals′ rights′ ups′ 
       let bytes : out′ ≡ coefficientFileOf (formed g) = rw saved at (s .lent-is) in
       loads-film out′ weights diagonals rights ups sources (formed g) (ap readCoefficients bytes ∙ converted-reads g v (save-gauge g _ saved)) fits L
 
--- Read, then written: the writer writes the file's own bytes.
+-- Read, then written: the writer writes the file's own bytes, if it has its weights.
 pub coefficients-read-write : (bytes weights diagonals rights ups : List ℕ) (sources : List ℤ) {weights′ diagonals′ rights′ ups′ : List ℕ} {sources′ : List ℤ} (out out′ : List ℕ) (h : Head) (answer : Answer (Unit {0}))
-    → Bytes bytes → LoadsCoefficients bytes weights diagonals rights ups sources (answered h) weights′ diagonals′ rights′ ups′ sources′
+    → Bytes bytes → weightless bytes ≡ false → LoadsCoefficients bytes weights diagonals rights ups sources (answered h) weights′ diagonals′ rights′ ups′ sources′
     → length out ≡ length bytes
     → Gives (coefficientSaveCall (usedFilm h weights′ diagonals′ rights′ ups′ sources′) out) answer out′
     → (answer ≡ answered tt) × (out′ ≡ bytes)
-coefficients-read-write bytes weights diagonals rights ups sources {weights′} {diagonals′} {rights′} {ups′} {sources′} out out′ h answer B L e s =
+coefficients-read-write bytes weights diagonals rights ups sources {weights′} {diagonals′} {rights′} {ups′} {sources′} out out′ h answer B c L e s =
     let f = usedFilm h weights′ diagonals′ rights′ ups′ sources′ in
     let reads = read-coefficients bytes weights diagonals rights ups sources h L in
     let values = coefficients-values bytes f B reads in
-    let whole : coefficientFileOf f ≡ bytes = coefficients-write bytes f B reads in
+    let whole : coefficientFileOf f ≡ bytes = coefficients-write bytes f B c reads in
     let room : length out ≡ coefficientEnd (sizeOf f) = e ∙ ap length (sym whole) ∙ coefficients-length f (values .0) (values .1) in
     let saved : coefficientSaveCheck f out ≡ pass = rw (values .0 .fits, eq-eqb _ _ room) (values .1) in
     (rw saved at (s .answer-is), (rw saved at (s .lent-is)) ∙ whole)
+
+-- .. and if it has none, into a slice with room for them too, the file with the found weights in place, which reads to the same film.
+pub coefficients-read-write-placed : (bytes weights diagonals rights ups : List ℕ) (sources : List ℤ) {weights′ diagonals′ rights′ ups′ : List ℕ} {sources′ : List ℤ} (out out′ : List ℕ) (h : Head) (answer : Answer (Unit {0}))
+    → Bytes bytes → weightless bytes ≡ true → LoadsCoefficients bytes weights diagonals rights ups sources (answered h) weights′ diagonals′ rights′ ups′ sources′
+    → length out ≡ length bytes + 2 * cells (h .rows) (h .columns)
+    → Gives (coefficientSaveCall (usedFilm h weights′ diagonals′ rights′ ups′ sources′) out) answer out′
+    → (answer ≡ answered tt) × InPlace (take (cells (h .rows) (h .columns)) weights′) bytes out′ × (readCoefficients out′ ≡ readCoefficients bytes)
+coefficients-read-write-placed bytes weights diagonals rights ups sources {weights′} {diagonals′} {rights′} {ups′} {sources′} out out′ h answer B c L e s =
+    let f = usedFilm h weights′ diagonals′ rights′ ups′ sources′ in
+    let reads = read-coefficients bytes weights diagonals rights ups sources h L in
+    let values = coefficients-values bytes f B reads in
+    let P : InPlace (f .weights) bytes (coefficientFileOf f) = coefficients-placed bytes f B c reads in
+    let count : length (f .weights) ≡ sizeOf f = coefficients-accepted bytes f reads .limited .sized .weights-len in
+    let room : length out ≡ coefficientEnd (sizeOf f) = omega (arith, e, placed-length P, count, coefficients-length f (values .0) (values .1)) in
+    let saved : coefficientSaveCheck f out ≡ pass = rw (values .0 .fits, eq-eqb _ _ room) (values .1) in
+    let file : out′ ≡ coefficientFileOf f = rw saved at (s .lent-is) in
+    (rw saved at (s .answer-is), subst (λ (l : List ℕ). InPlace (f .weights) bytes l) (sym file) P, ap readCoefficients file ∙ placed-coefficients bytes f B reads)
 
 -- Read by the reader of gauged films, then converted: the converter does not refuse it, and its file has the same film.
 pub read-convert : (bytes weights thicknesses weights′ thicknesses′ out out′ : List ℕ) (h : Head) (wedge : ℤ) (steps : Steps) (answer : Answer (Unit {0})) → Bytes bytes

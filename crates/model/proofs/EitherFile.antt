@@ -10,12 +10,13 @@ use Rattle.model.specs.Refusals.{Check, pass, fail, _orElse_}
 use Rattle.model.specs.Gauge.{Gauge}
 use Rattle.model.specs.Film.{Film}
 use Rattle.model.specs.Coefficients.{formed}
-use Rattle.model.specs.Checks.{coefficientCheck, dominanceCheck, filmCheck}
+use Rattle.model.specs.Checks.{coefficientCheck, filmCheck}
+use Rattle.model.specs.Weighing.{heldCheck}
 use Rattle.model.specs.Accepted.{Accepted}
 use Rattle.model.specs.Result.{Answer, answered, refused, answerBy}
-use Rattle.model.specs.Fields.{fieldsEnd, fieldTest, walk, present, fieldsIn}
-use Rattle.model.specs.File.{shapeField, ceilingField, weightsField, thicknessesField, wedgeField, opening, gauged, gaugedOptional, cellsIn, ringIn, gaugedParts, gaugeIn, gaugeDominance, fieldsCheck, fileCheck, readFilm, Bytes}
-use Rattle.model.specs.CoefficientFile.{diagonalsField, rightsField, upsField, sourcesField, coefficientFields, filmIn, coefficientFileCheck, readCoefficients, coefficientFileOf}
+use Rattle.model.specs.Fields.{fieldsEnd, fieldTest, walk, present}
+use Rattle.model.specs.File.{shapeField, ceilingField, weightsField, thicknessesField, wedgeField, opening, gaugedOptional, cellsIn, ringIn, weightless, carriedIn, gaugedParts, gaugedIn, numbersIn, gaugeIn, fieldsCheck, fileCheck, readFilm, Bytes}
+use Rattle.model.specs.CoefficientFile.{diagonalsField, rightsField, upsField, sourcesField, coefficientsIn, filmIn, coefficientFieldsIn, coefficientFileCheck, readCoefficients, coefficientFileOf}
 use Rattle.model.specs.EitherFile.{tagged06, formedBy, readEither}
 use Rattle.model.specs.Report.{reportBy, reportOf}
 use Rattle.model.proofs.Opening.{Continues, tag-refused, opening-refused}
@@ -27,16 +28,16 @@ use Rattle.model.proofs.CoefficientFile.{coefficients-accepted, coeffic
 
 -- where a reader's test of the fields fails, that is its refusal
 module _ (bytes : List ℕ) {number place : ℕ} where
-  gauged-fails : fieldsCheck (fieldsIn (gauged (cellsIn bytes) (ringIn bytes)) gaugedOptional bytes) bytes ≡ fail number place → readFilm bytes ≡ refused number place
+  gauged-fails : fieldsCheck (gaugedIn bytes) bytes ≡ fail number place → readFilm bytes ≡ refused number place
   unfolding fileCheck
-  gauged-fails e = ap (λ c. answerBy (c orElse gaugeDominance (gaugeIn bytes)) (gaugeIn bytes)) e
+  gauged-fails e = ap (λ c. answerBy (c orElse heldCheck (weightless bytes) (formed (numbersIn bytes))) (gaugeIn bytes)) e
 
-  coefficients-fail : fieldsCheck (coefficientFields (cellsIn bytes)) bytes ≡ fail number place → readCoefficients bytes ≡ refused number place
+  coefficients-fail : fieldsCheck (coefficientFieldsIn bytes) bytes ≡ fail number place → readCoefficients bytes ≡ refused number place
   unfolding coefficientFileCheck
-  coefficients-fail e = ap (λ c. answerBy (c orElse coefficientCheck (filmIn bytes) orElse dominanceCheck (filmIn bytes)) (filmIn bytes)) e
+  coefficients-fail e = ap (λ c. answerBy (c orElse coefficientCheck (coefficientsIn bytes) orElse heldCheck (weightless bytes) (coefficientsIn bytes)) (filmIn bytes)) e
 
 -- What fields 01 to 03 are refused for, both readers refuse alike: which one is chosen shows only once they pass.
-pub refused-alike : (bytes : List ℕ) (number place : ℕ) → walk (opening (cellsIn bytes)) bytes 0 ≡ fail number place
+pub refused-alike : (bytes : List ℕ) (number place : ℕ) → walk (opening (carriedIn bytes)) bytes 0 ≡ fail number place
     → (readFilm bytes ≡ refused number place) × (readCoefficients bytes ≡ refused number place)
 refused-alike bytes number place e =
     let n = cellsIn bytes in (
@@ -47,7 +48,7 @@ refused-alike bytes number place e =
 -- so is what field 01 is refused for, however many cells its shape says
 pub shape-refused : (bytes : List ℕ) (number place : ℕ) → fieldTest shapeField bytes 0 ≡ fail number place → readEither bytes ≡ refused number place
 shape-refused bytes number place e =
-    let r = refused-alike bytes number place (ap (λ c. c orElse walk (ceilingField ∷ weightsField (cellsIn bytes) ∷ []) bytes 5) e) in
+    let r = refused-alike bytes number place (ap (λ c. c orElse walk (ceilingField ∷ weightsField (carriedIn bytes) ∷ []) bytes 5) e) in
     go (tagged06 bytes) r
   where
     go : (b : Bool) → (readFilm bytes ≡ refused number place) × (readCoefficients bytes ≡ refused number place)
@@ -57,12 +58,12 @@ shape-refused bytes number place e =
 
 -- The reader of gauged films refuses a coefficient film with 2 at tag 06, and the other way round.
 pub coefficients-not-gauged : (bytes : List ℕ) (f : Film) → readCoefficients bytes ≡ answered f
-    → readFilm bytes ≡ refused 2 (fieldsEnd (opening (cellsIn bytes)) 0)
+    → readFilm bytes ≡ refused 2 (fieldsEnd (opening (carriedIn bytes)) 0)
 coefficients-not-gauged bytes f e =
     gauged-fails bytes (tag-refused bytes (thicknessesField (ringIn bytes)) (wedgeField ∷ present gaugedOptional (gaugedParts bytes)) 6 (coefficients-continue bytes f e) refl)
 
 pub gauged-not-coefficients : (bytes : List ℕ) (g : Gauge) → readFilm bytes ≡ answered g
-    → readCoefficients bytes ≡ refused 2 (fieldsEnd (opening (cellsIn bytes)) 0)
+    → readCoefficients bytes ≡ refused 2 (fieldsEnd (opening (carriedIn bytes)) 0)
 gauged-not-coefficients bytes g e =
     let n = cellsIn bytes in
     coefficients-fail bytes (tag-refused bytes (diagonalsField n) (rightsField n ∷ upsField n ∷ sourcesField n ∷ []) 4 (read-continues bytes g e) refl)

@@ -23,7 +23,7 @@ use Rattle.model.specs.File.{cells, ringed, ceilingOffset, weightsOffset
 use Rattle.model.proofs.Integers.{sub-pos, sub-lt, sub-le, by-order}
 use Rattle.model.proofs.Lists.{tabulate-length, tabulate-at, first-hit}
 use Rattle.model.proofs.Checks.{within, failIf-pass, failFirst-pass}
-use Rattle.model.proofs.File.{NumbersPassed, gauge-passes, gauge-shape, wedge-low, stepped}
+use Rattle.model.proofs.GaugeTests.{NumbersPassed, GaugePassed, gauge-passes, gauge-shape, wedge-low, stepped}
 
 -- ---- an accepted film passes its tests: the converse of what passed tests say
 
@@ -229,9 +229,20 @@ unfolding gaugeDominance notDominant
 formed-accepted g v e =
     let p = gauge-passes g e in
     let n = cells (g .rows) (g .columns) in
-    let none = failFirst-pass (λ i. eqb (getD (g .weights) i 0) 0) n 6 (λ i. weightsOffset + 2 * i) (p .numbers .weights) in
+    let none = failFirst-pass (λ i. eqb (getD (g .weights) i 0) 0) n 6 (λ i. weightsOffset + 2 * i) (p .weights) in
     record {
       limited = formed-limited g (p .numbers) (v .weights-len);
       weight = λ i h. omega (arith, eqb-false (getD (g .weights) i 0) 0 (none i h));
       dominant = failFirst-pass (notDominant (formed g)) n 9 (λ i. i) (p .dominant);
+    }
+
+-- and back: numbers whose coefficients are accepted pass the tests of their weights too.
+pub accepted-gauge : (g : Gauge) → NumbersPassed g → Accepted (formed g) → GaugePassed g
+unfolding gaugeDominance notDominant
+accepted-gauge g p A =
+    let n = cells (g .rows) (g .columns) in
+    record {
+      numbers = p;
+      weights = pass-first (λ i. eqb (getD (g .weights) i 0) 0) n 6 (λ i. weightsOffset + 2 * i) (λ i h. ne-eqb (getD (g .weights) i 0) 0 (λ e. omega (arith, A .weight i h)));
+      dominant = pass-first (notDominant (formed g)) n 9 (λ i. i) (A .dominant);
     }

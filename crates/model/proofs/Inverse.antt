@@ -1,8 +1,8 @@
 -- Reader and writer undo each other, as promises of the two calls: from nothing but the records that stand in their `ensures`.
 use mathlib.Core.Path.{_≡_, refl, sym, ap, _∙_, subst}
-use mathlib.Core.Bool.{Bool, true, not, _&&_}
+use mathlib.Core.Bool.{Bool, true, false, not, _&&_}
 use mathlib.Core.List.{List, [], _∷_, _++_}
-use Prim.Native.Nat.{ℕ, _+_}
+use Prim.Native.Nat.{ℕ, _+_, _*_}
 use native.Mathlib.Omega.{arith}
 use borrow.Author.Tests.{eq-eqb, not-false}
 use lib.Dec.{eqb}
@@ -14,10 +14,11 @@ use Rattle.model.specs.Refusals.{Check, pass, fail, _orElse_, failIf}
 use Rattle.model.specs.Gauge.{Gauge}
 use Rattle.model.specs.Checks.{shapeCheck}
 use Rattle.model.specs.Result.{Answer, answered, refused, answerBy, Gives}
-use Rattle.model.specs.File.{cells, ringed, rowsOffset, columnsOffset, gaugeIn, fileCheck, readFilm, gaugedEnd, fileOf, gaugeCheck, Bytes, Values}
+use Rattle.model.specs.File.{cells, ringed, rowsOffset, columnsOffset, weightless, gaugeIn, fileCheck, readFilm, gaugedEnd, fileOf, gaugeCheck, Bytes, Values, InPlace}
 use Rattle.model.specs.FileCalls.{gaugeOf, headOf, saveCheck, saveCall, LoadAnswer, film, loadAnswer, loadCheck, laidOver, Loads, ReadsBack, used}
 use Rattle.model.proofs.Checks.{orElse-parts, failIf-pass}
-use Rattle.model.proofs.File.{file-length, written-reads, read-writes, read-values}
+use Rattle.model.proofs.Opening.{placed-length}
+use Rattle.model.proofs.File.{file-length, written-reads, read-writes, read-values, weights-placed, placed-reads}
 
 -- an answer that is no refusal comes from tests that passed
 pub answer-passed : {A : Type 0} (c : Check) (b : A) {a : A} → answered a ≡ answerBy c b → (c ≡ pass) × (a ≡ b)
@@ -98,19 +99,36 @@ read-refusal bytes weights thicknesses weights′ thicknesses′ number place w 
     let same : loadCheck bytes weights thicknesses ≡ fileCheck bytes = rw (w, t) in
     refused-same (fileCheck bytes) (loadAnswer (gaugeIn bytes)) (gaugeIn bytes) (rw same at (L .answer-is))
 
--- Read, then written: the writer writes the file's own bytes.
-pub read-write : (bytes weights thicknesses weights′ thicknesses′ out out′ : List ℕ) (h : Head) (wedge : ℤ) (steps : Steps) (answer : Answer (Unit {0})) → Bytes bytes
+-- Read, then written: the writer writes the file's own bytes, if it has its weights.
+pub read-write : (bytes weights thicknesses weights′ thicknesses′ out out′ : List ℕ) (h : Head) (wedge : ℤ) (steps : Steps) (answer : Answer (Unit {0})) → Bytes bytes → weightless bytes ≡ false
     → Loads bytes weights thicknesses (answered (film h wedge steps)) weights′ thicknesses′
     → length out ≡ length bytes
     → Gives (saveCall (used h wedge steps weights′ thicknesses′) out) answer out′
     → (answer ≡ answered tt) × (out′ ≡ bytes)
-read-write bytes weights thicknesses weights′ thicknesses′ out out′ h wedge steps answer B L e s =
+read-write bytes weights thicknesses weights′ thicknesses′ out out′ h wedge steps answer B c L e s =
     let g = used h wedge steps weights′ thicknesses′ in
     let reads = read-film bytes weights thicknesses weights′ thicknesses′ h wedge steps B L in
     let values = read-values bytes g B reads in
-    let whole : fileOf g ≡ bytes = read-writes bytes g B reads in
+    let whole : fileOf g ≡ bytes = read-writes bytes g B c reads in
     let room : length out ≡ gaugedEnd g =
     e ∙ ap length (sym whole) ∙ file-length g (values .0) in
     let saved : saveCheck g out ≡ pass =
     rw (eq-eqb _ _ (values .0 .weights-len), eq-eqb _ _ (values .0 .thicknesses-len), eq-eqb _ _ room) (values .1) in
     (rw saved at (s .answer-is), (rw saved at (s .lent-is)) ∙ whole)
+
+-- .. and if it has none, into a slice with room for them too, the file with the found weights in place, which reads to the same film.
+pub read-write-placed : (bytes weights thicknesses weights′ thicknesses′ out out′ : List ℕ) (h : Head) (wedge : ℤ) (steps : Steps) (answer : Answer (Unit {0})) → Bytes bytes → weightless bytes ≡ true
+    → Loads bytes weights thicknesses (answered (film h wedge steps)) weights′ thicknesses′
+    → length out ≡ length bytes + 2 * cells (h .rows) (h .columns)
+    → Gives (saveCall (used h wedge steps weights′ thicknesses′) out) answer out′
+    → (answer ≡ answered tt) × InPlace (take (cells (h .rows) (h .columns)) weights′) bytes out′ × (readFilm out′ ≡ readFilm bytes)
+read-write-placed bytes weights thicknesses weights′ thicknesses′ out out′ h wedge steps answer B c L e s =
+    let g = used h wedge steps weights′ thicknesses′ in
+    let reads = read-film bytes weights thicknesses weights′ thicknesses′ h wedge steps B L in
+    let values = read-values bytes g B reads in
+    let P : InPlace (g .weights) bytes (fileOf g) = weights-placed bytes g B c reads in
+    let room : length out ≡ gaugedEnd g = omega (arith, e, placed-length P, values .0 .weights-len, file-length g (values .0)) in
+    let saved : saveCheck g out ≡ pass =
+    rw (eq-eqb _ _ (values .0 .weights-len), eq-eqb _ _ (values .0 .thicknesses-len), eq-eqb _ _ room) (values .1) in
+    let file : out′ ≡ fileOf g = rw saved at (s .lent-is) in
+    (rw saved at (s .answer-is), subst (λ (l : List ℕ). InPlace (g .weights) bytes l) (sym file) P, ap readFilm file ∙ placed-reads bytes g B reads)

@@ -11,6 +11,7 @@ pub mod Bare
 pub mod Acceptance
 pub mod Estimate
 pub mod Run
+pub mod Weighing
 pub mod Refused
 pub mod Numbered
 pub mod History
@@ -19,11 +20,12 @@ pub mod Codes
 pub mod Fields
 pub mod Optional
 pub mod Opening
+pub mod GaugeTests
+pub mod Forming
 pub mod File
 pub mod Inverse
 pub mod Session
 pub mod Prefix
-pub mod Forming
 pub mod CoefficientFile
 pub mod EitherFile
 pub mod CoefficientInverse

@@ -8,7 +8,7 @@ use native.Mathlib.Numerals.{add-one}
 use native.Mathlib.Decide.{decLt}
 use native.Mathlib.Omega.{arith}
 use borrow.Author.Tests.{lt-ltb, le-ltb}
-use lib.ListN.{length, getD, List·getD-eq-default}
+use lib.ListN.{length, getD, take, replicate, List·getD-eq-default}
 use lib.Seq.{ext-getD}
 use Rattle.model.specs.Lists.{tabulate, firstOf, countBelow, allBelow, greatest}
 
@@ -32,6 +32,16 @@ module _ {A : Type 0} where
   tabulate-same d n f g h = tabulate-is n g d (tabulate n f) (tabulate-length n f) (λ i b. tabulate-at n f d i b ∙ h i b)
 
 -- a list by index, in two parts
+-- the start of a list of one number
+module _ {A : Type 0} (x : A) where
+  front : (n m : ℕ) → n ≤ m → take n (replicate m x) ≡ replicate n x
+  front zero m h = refl
+  front (suc n) zero h = absurd (omega arith)
+  front (suc n) (suc m) h = ap (λ (l : List A). x ∷ l) (front n m (le-of-suc-le-suc h))
+
+  pub take-same : (n m : ℕ) {k : ℕ} → n ≤ m → n ≡ k → take n (replicate m x) ≡ replicate k x
+  take-same n m h e = front n m h ∙ ap (λ (k : ℕ). replicate k x) e
+
 pub tabulate-add : (a b : ℕ) (f : ℕ → ℕ) → tabulate (a + b) f ≡ tabulate a f ++ tabulate b (λ j. f (a + j))
 tabulate-add zero b f = simp zero-add
 tabulate-add (suc a) b f = simp suc-add (ap (λ r. f 0 ∷ r) (tabulate-add a b (λ j. f (suc j))))

@@ -10,18 +10,18 @@ use lib.ListN.{length, getD}
 use Rattle.model.specs.Limits.{sideLimit, ceilingLimit, thicknessLimit, wedgeLimit, stepLimit}
 use Rattle.model.specs.Lists.{firstOf}
 use Rattle.model.specs.Refusals.{Check, pass, fail, _orElse_, failIf, failFirst, Numbered}
-use Rattle.model.specs.Gauge.{Gauge}
 use Rattle.model.specs.Film.{Film, sizeOf}
 use Rattle.model.specs.Coefficients.{formed}
 use Rattle.model.specs.Checks.{outside, filmFits, badCoefficient, zeroWeight, notDominant, sizeCheck, coefficientCheck, weightCheck, dominanceCheck, orderCheck, lineCheck, fieldCheck}
 use Rattle.model.specs.Bytes.{byteAt, wordAt, longAt, signedOf}
-use Rattle.model.specs.Fields.{Field, body, behind, fieldsEnd, fieldAt, walk, Optional, absent, given, present, fieldsIn}
-use Rattle.model.specs.File.{shapeField, ceilingField, weightsField, thicknessesField, wedgeField, stepsField, gauged, gaugedOptional, cellsIn, ringIn, gaugedParts, gaugeIn, gaugeDominance, fieldsCheck, fileCheck}
+use Rattle.model.specs.Fields.{Field, body, behind, fieldsEnd, fieldAt, walk, Optional, absent, given, present}
+use Rattle.model.specs.File.{shapeField, ceilingField, weightsField, thicknessesField, wedgeField, stepsField, gauged, gaugedOptional, cellsIn, ringIn, weightless, carriedIn, gaugedParts, gaugedIn, numbersIn, fieldsCheck, fileCheck}
 use Rattle.model.specs.FileCalls.{loadCheck}
-use Rattle.model.specs.CoefficientFile.{coefficientFields, filmIn, coefficientFileCheck}
+use Rattle.model.specs.CoefficientFile.{coefficientFields, coefficientsIn, coefficientFieldsIn, coefficientFileCheck}
 use Rattle.model.specs.CoefficientCalls.{buffersFit, coefficientLoadCheck}
 use Rattle.model.specs.Proposal.{rowCheck}
-use Rattle.model.specs.Run.{runCheck}
+use Rattle.model.specs.Run.{RunAnswer, done, stopped, over, runCheck}
+use Rattle.model.specs.Weighing.{weightSearch, searchedCheck, heldCheck}
 
 -- ---- tests, and tests one after another
 
@@ -99,8 +99,8 @@ gauged-numbered n t = (shape-numbered, (ceiling-numbered, (weights-numbered n, (
     wedge : (bytes : List ℕ) (at : ℕ) → Numbered (wedgeField .check bytes at)
     wedge bytes at = by-if (ltb wedgeLimit (natAbs (signedOf (longAt bytes at)))) 8 at (omega arith)
 
-coefficients-numbered : (n : ℕ) → AllNumbered (coefficientFields n)
-coefficients-numbered n = (shape-numbered, (ceiling-numbered, (weights-numbered n, (untested, (untested, (untested, (untested, tt)))))))
+coefficients-numbered : (w n : ℕ) → AllNumbered (coefficientFields w n)
+coefficients-numbered w n = (shape-numbered, (ceiling-numbered, (weights-numbered w, (untested, (untested, (untested, (untested, tt)))))))
   where
     untested : (bytes : List ℕ) (at : ℕ) → Numbered pass
     untested bytes at = by-pass
@@ -125,23 +125,30 @@ fields-numbered : (fields : List Field) (bytes : List ℕ) → AllNumbered field
 fields-numbered fields bytes all =
     by-or _ _ (walk-numbered fields bytes 0 all) (by-if (ltb (fieldsEnd fields 0) (length bytes)) 2 (fieldsEnd fields 0) (omega arith))
 
-dominance-numbered : (g : Gauge) → Numbered (gaugeDominance g)
-unfolding gaugeDominance
-dominance-numbered g = by-first (notDominant (formed g)) (g .rows * g .columns) 9 (λ i. i) (omega arith)
+-- 9, or 16 and 17
+searched-numbered : (a : RunAnswer) → Numbered (searchedCheck a)
+searched-numbered (done c) = by-pass
+searched-numbered (over i c) = by-if true 16 i (omega arith)
+searched-numbered (stopped c) = by-if true 17 0 (omega arith)
+
+held-numbered : (none : Bool) (f : Film) → Numbered (heldCheck none f)
+unfolding dominanceCheck
+held-numbered true f = searched-numbered (weightSearch f .answer)
+held-numbered false f = by-first (notDominant f) (sizeOf f) 9 (λ i. i) (omega arith)
 
 pub load-numbered : (bytes weights thicknesses : List ℕ) → Numbered (loadCheck bytes weights thicknesses)
 unfolding fileCheck
 load-numbered bytes weights thicknesses =
     by-or _ _ (by-if (not (eqb (length weights) 1024 && eqb (length thicknesses) 1156)) 10 0 (omega arith))
     (by-or _ _
-    (fields-numbered (fieldsIn (gauged (cellsIn bytes) (ringIn bytes)) gaugedOptional bytes) bytes
-    (all-present (gauged (cellsIn bytes) (ringIn bytes)) gaugedOptional (gaugedParts bytes) (gauged-numbered (cellsIn bytes) (ringIn bytes)) optional-numbered))
-    (dominance-numbered (gaugeIn bytes)))
+    (fields-numbered (gaugedIn bytes) bytes
+    (all-present (gauged (carriedIn bytes) (ringIn bytes)) gaugedOptional (gaugedParts bytes) (gauged-numbered (carriedIn bytes) (ringIn bytes)) optional-numbered))
+    (held-numbered (weightless bytes) (formed (numbersIn bytes))))
 
 pub coefficient-load-numbered : (bytes weights diagonals rights ups : List ℕ) (sources : List ℤ) → Numbered (coefficientLoadCheck bytes weights diagonals rights ups sources)
-unfolding coefficientFileCheck coefficientCheck dominanceCheck
+unfolding coefficientFileCheck coefficientCheck
 coefficient-load-numbered bytes weights diagonals rights ups sources =
-    let f = filmIn bytes in
+    let f = coefficientsIn bytes in
     by-or _ _ (by-if (not (buffersFit weights diagonals rights ups sources)) 10 0 (omega arith))
-    (by-or _ _ (fields-numbered (coefficientFields (cellsIn bytes)) bytes (coefficients-numbered (cellsIn bytes)))
-    (by-or _ _ (by-first (badCoefficient f) (sizeOf f) 14 (λ i. i) (omega arith)) (by-first (notDominant f) (sizeOf f) 9 (λ i. i) (omega arith))))
+    (by-or _ _ (fields-numbered (coefficientFieldsIn bytes) bytes (coefficients-numbered (carriedIn bytes) (cellsIn bytes)))
+    (by-or _ _ (by-first (badCoefficient f) (sizeOf f) 14 (λ i. i) (omega arith)) (held-numbered (weightless bytes) f)))

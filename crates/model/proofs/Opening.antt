@@ -4,19 +4,19 @@ use mathlib.Core.Bool.{false}
 use mathlib.Core.List.{List, [], _∷_, _++_}
 use Prim.Native.Nat.{ℕ, _+_, _*_, _≤_, _<_}
 use native.Mathlib.Omega.{arith}
-use borrow.Author.Tests.{le-ltb}
+use borrow.Author.Tests.{le-ltb, ne-eqb}
 use lib.Dec.{eqb}
-use lib.ListN.{length, getD}
+use lib.ListN.{length, getD, length-append}
 use Rattle.model.specs.Limits.{sideLimit}
 use Rattle.model.specs.Lists.{tabulate}
 use Rattle.model.specs.Refusals.{pass, fail, _orElse_, failIf}
 use Rattle.model.specs.Checks.{outside, shapeCheck}
 use Rattle.model.specs.Bytes.{byteAt, wordAt, longAt, long, listed}
-use Rattle.model.specs.Fields.{Field, body, behind, fieldsEnd, fieldAt, walk, unexpectedAt}
-use Rattle.model.specs.File.{cells, shapeField, ceilingField, opening, rowsOffset, columnsOffset, ceilingOffset, weightsOffset, cellsIn, fieldsCheck, weightBytes}
+use Rattle.model.specs.Fields.{Field, body, behind, fieldsEnd, fieldAt, walk, unexpectedAt, field}
+use Rattle.model.specs.File.{cells, shapeField, ceilingField, opening, rowsOffset, columnsOffset, ceilingOffset, weightsOffset, cellsIn, weightless, carriedIn, fieldsCheck, weightBytes, InPlace}
 use Rattle.model.proofs.Lists.{tabulate-is}
 use Rattle.model.proofs.Checks.{within, orElse-parts, failIf-pass}
-use Rattle.model.proofs.Codes.{Code, word-code, long-code, listed-reads}
+use Rattle.model.proofs.Codes.{Code, word-code, long-code, listed-length, listed-reads}
 use Rattle.model.proofs.Fields.{Passes, passes-walk, walk-append, header, Stands}
 
 -- what the test of the shape says
@@ -33,39 +33,47 @@ shape-passes rows columns a b e =
     let c = within columns 1 sideLimit (failIf-pass _ 4 b (s .1)) in
     record { rows-some = r .0; rows-low = r .1; columns-some = c .0; columns-low = c .1 }
 
+-- ---- whether a file has its weights
+
+-- where field 03 stands with n of them it has
+pub has-weights : (l : List ℕ) (n : ℕ) → fieldAt l (fieldsEnd (shapeField ∷ ceilingField ∷ []) 0) 3 (2 * n) ≡ pass → 1 ≤ n → weightless l ≡ false
+has-weights l n e h =
+    let size = header l (fieldsEnd (shapeField ∷ ceilingField ∷ []) 0) 3 (2 * n) e .size-is in
+    ne-eqb (wordAt l (fieldsEnd (shapeField ∷ ceilingField ∷ []) 0 + 1)) 0 (λ z. omega (arith, size, z, h))
+
 -- ---- what follows the three fields
 
 -- where they have passed, and the header of the next field is there
 pub record Continues (l : List ℕ) (tag : ℕ) : Type 0 where
-  pub opens : walk (opening (cellsIn l)) l 0 ≡ pass
-  pub tag-is : byteAt l (fieldsEnd (opening (cellsIn l)) 0) ≡ tag
-  pub fits : body (fieldsEnd (opening (cellsIn l)) 0) ≤ length l
+  pub opens : walk (opening (carriedIn l)) l 0 ≡ pass
+  pub tag-is : byteAt l (fieldsEnd (opening (carriedIn l)) 0) ≡ tag
+  pub fits : body (fieldsEnd (opening (carriedIn l)) 0) ≤ length l
 
-pub continues : (l : List ℕ) (f : Field) (gs : List Field) → Passes (opening (cellsIn l) ++ (f ∷ gs)) l 0 → Continues l (f .tag)
+pub continues : (l : List ℕ) (f : Field) (gs : List Field) → Passes (opening (carriedIn l) ++ (f ∷ gs)) l 0 → Continues l (f .tag)
 continues l f gs p =
     let next = header l _ (f .tag) (f .size) (p .2 .2 .2 .0) in
     record {
-      opens = passes-walk (opening (cellsIn l)) l 0 (p .0, p .1, (p .2 .0, p .2 .1, (p .2 .2 .0, p .2 .2 .1, tt)));
+      opens = passes-walk (opening (carriedIn l)) l 0 (p .0, p .1, (p .2 .0, p .2 .1, (p .2 .2 .0, p .2 .2 .1, tt)));
       tag-is = next .tag-is;
       fits = omega (arith, next .fits);
     }
 
 -- a kind of file whose next field has another tag refuses such a file there
 pub tag-refused : (l : List ℕ) (f : Field) (gs : List Field) (tag : ℕ) → Continues l tag → eqb tag (f .tag) ≡ false
-    → fieldsCheck (opening (cellsIn l) ++ (f ∷ gs)) l ≡ fail 2 (fieldsEnd (opening (cellsIn l)) 0)
+    → fieldsCheck (opening (carriedIn l) ++ (f ∷ gs)) l ≡ fail 2 (fieldsEnd (opening (carriedIn l)) 0)
 unfolding fieldAt
 tag-refused l f gs tag c e =
-    let at = fieldsEnd (opening (cellsIn l)) 0 in
+    let at = fieldsEnd (opening (carriedIn l)) 0 in
     let here : fieldAt l at (f .tag) (f .size) ≡ fail 2 at = rw (le-ltb (length l) (body at) (c .fits), c .tag-is, e) in
-    ap (λ x. x orElse unexpectedAt l (fieldsEnd (opening (cellsIn l) ++ (f ∷ gs)) 0)) (walk-append (opening (cellsIn l)) (f ∷ gs) l 0
+    ap (λ x. x orElse unexpectedAt l (fieldsEnd (opening (carriedIn l) ++ (f ∷ gs)) 0)) (walk-append (opening (carriedIn l)) (f ∷ gs) l 0
     ∙ (λ k. c .opens k orElse ((here k orElse f .check l (body at)) orElse walk gs l (behind at (f .size)))))
 
 -- what one of the three refuses, each kind of file refuses alike, whatever follows
-pub opening-refused : (l : List ℕ) (rest : List Field) (number place : ℕ) → walk (opening (cellsIn l)) l 0 ≡ fail number place
-    → fieldsCheck (opening (cellsIn l) ++ rest) l ≡ fail number place
+pub opening-refused : (l : List ℕ) (rest : List Field) (number place : ℕ) → walk (opening (carriedIn l)) l 0 ≡ fail number place
+    → fieldsCheck (opening (carriedIn l) ++ rest) l ≡ fail number place
 opening-refused l rest number place e =
-    ap (λ x. x orElse unexpectedAt l (fieldsEnd (opening (cellsIn l) ++ rest) 0)) (walk-append (opening (cellsIn l)) rest l 0
-    ∙ ap (λ x. x orElse walk rest l (fieldsEnd (opening (cellsIn l)) 0)) e)
+    ap (λ x. x orElse unexpectedAt l (fieldsEnd (opening (carriedIn l) ++ rest) 0)) (walk-append (opening (carriedIn l)) rest l 0
+    ∙ ap (λ x. x orElse walk rest l (fieldsEnd (opening (carriedIn l)) 0)) e)
 
 -- ---- numbers in a field's body
 
@@ -105,3 +113,18 @@ opening-reads rows columns ceiling weights l len low words shape top list =
       ceiling-is = number-inside long-code ceiling low top;
       weights-are = rw (r, c) (list-inside word-code weights 0 (cells rows columns) len words list);
     }
+
+-- a file with its weights in place is longer by two bytes for each
+pub placed-length : {weights bytes out : List ℕ} → InPlace weights bytes out → length out ≡ length bytes + 2 * length weights
+placed-length {weights} {bytes} {out} P =
+    let full = field 3 (2 * length weights) (weightBytes weights) in
+    omega (
+      arith,
+      ap length (P .was),
+      ap length (P .is),
+      length-append (P .front ++ field 3 0 []) (P .back),
+      length-append (P .front) (field 3 0 []),
+      length-append (P .front ++ full) (P .back),
+      length-append (P .front) full,
+      listed-length word-code weights,
+    )

@@ -3,7 +3,7 @@
 -- Two files that agree in as many bytes as the largest film has, and one more, are read alike: where the shape is refused, only the first
 -- bytes were looked at; where it is not, the fields of either kind end within those bytes, and the numbers are the same.
 use mathlib.Core.Path.{_≡_, refl, sym, ap, ap₂, _∙_}
-use mathlib.Core.Bool.{cond}
+use mathlib.Core.Bool.{Bool, true, false, cond}
 use mathlib.Core.List.{List, _++_}
 use Prim.Native.Nat.{ℕ, _+_, _*_, _≤_, _<_}
 use native.Mathlib.Nat.{mul-le-mul, mul-le-mul-left, mul-suc}
@@ -17,12 +17,15 @@ use lib.Seq.{length-take-le, take-all, getD-take}
 use Rattle.model.specs.Limits.{thicknessLimit}
 use Rattle.model.specs.Lists.{tabulate}
 use Rattle.model.specs.Refusals.{Check, pass, fail, _orElse_}
-use Rattle.model.specs.Film.{Film, sizeOf}
-use Rattle.model.specs.Checks.{outside, shapeCheck, ceilingCheck, coefficientCheck, dominanceCheck}
+use Rattle.model.specs.Gauge.{weightedGauge}
+use Rattle.model.specs.Film.{weighted}
+use Rattle.model.specs.Coefficients.{formed}
+use Rattle.model.specs.Checks.{outside, shapeCheck, ceilingCheck, coefficientCheck}
+use Rattle.model.specs.Weighing.{weightsFor, heldCheck}
 use Rattle.model.specs.Bytes.{byteAt, wordAt, signedOf}
 use Rattle.model.specs.Fields.{Field, fieldsEnd, fieldAt, fieldTest, unexpectedAt, absent, present}
-use Rattle.model.specs.File.{cells, ringed, wedgeCheck, factorsFrom, shapeField, ceilingField, weightsField, thicknessesField, wedgeField, stepsField, opening, gauged, gaugedOptional, rowsOffset, columnsOffset, ceilingOffset, weightsOffset, thicknessesOffset, wedgeOffset, endOffset, cellsIn, ringIn, stepsOf, gaugedParts, gaugeIn, gaugeDominance, fieldsCheck, fileCheck, readFilm}
-use Rattle.model.specs.CoefficientFile.{numbersField, coefficientFields, diagonalsOffset, rightsOffset, upsOffset, sourcesOffset, filmIn, coefficientFileCheck, readCoefficients}
+use Rattle.model.specs.File.{cells, ringed, wedgeCheck, factorsFrom, shapeField, ceilingField, weightsField, thicknessesField, wedgeField, stepsField, opening, gauged, gaugedOptional, rowsOffset, columnsOffset, ceilingOffset, weightsOffset, thicknessesOffset, wedgeOffset, endOffset, cellsIn, ringIn, weightless, carriedIn, stepsOf, gaugedParts, numbersIn, gaugeIn, fieldsCheck, fileCheck, readFilm}
+use Rattle.model.specs.CoefficientFile.{numbersField, coefficientFields, diagonalsOffset, rightsOffset, upsOffset, sourcesOffset, coefficientsIn, filmIn, coefficientFileCheck, readCoefficients}
 use Rattle.model.specs.EitherFile.{tagged06, formedBy, readEither}
 use Rattle.model.specs.Result.{answerBy}
 use Rattle.model.specs.Report.{reportBy, reportOf, enough}
@@ -77,18 +80,23 @@ steps-local =
 gauged-local : (n t : ℕ) → AllLocal (gauged n t)
 gauged-local n t = (shape-local, (ceiling-local, (weights-local n, (thicknesses-local t, (wedge-local, tt)))))
 
-coefficients-local : (n : ℕ) → AllLocal (coefficientFields n)
-coefficients-local n = (
+coefficients-local : (w n : ℕ) → AllLocal (coefficientFields w n)
+coefficients-local w n = (
   shape-local,
-  (ceiling-local, (weights-local n, (numbers-local 6 4 n, (numbers-local 7 4 n, (numbers-local 8 4 n, (numbers-local 9 8 n, tt)))))),
+  (ceiling-local, (weights-local w, (numbers-local 6 4 n, (numbers-local 7 4 n, (numbers-local 8 4 n, (numbers-local 9 8 n, tt)))))),
 )
 
 -- films within the limits of their shape end before that
 few-cells : {rows columns : ℕ} → Shaped rows columns → cells rows columns ≤ 1024
 few-cells s = let count = mul-le-mul (s .rows-low) (s .columns-low) in omega arith
 
-gauged-near : {rows columns : ℕ} → Shaped rows columns → fieldsEnd (gauged (cells rows columns) (ringed rows columns) ++ gaugedOptional) 0 < enough
-gauged-near s = let few = few-cells s in omega arith
+gauged-near : {rows columns : ℕ} (w : ℕ) → w ≤ cells rows columns → Shaped rows columns → fieldsEnd (gauged w (ringed rows columns) ++ gaugedOptional) 0 < enough
+gauged-near w h s = let few = few-cells s in omega arith
+
+-- a file has a weight for each cell, or none
+carried-low : (none : Bool) (n : ℕ) → cond none 0 n ≤ n
+carried-low true n = omega arith
+carried-low false n = omega arith
 
 -- ---- two files that agree so far
 
@@ -108,6 +116,13 @@ module _ (l m : List ℕ) (A : Agree enough l m) where
 
   columns-same : byteAt l columnsOffset ≡ byteAt m columnsOffset
   columns-same = A .same columnsOffset (omega arith)
+
+  -- .. so is whether the weights are there, ..
+  none-same : weightless l ≡ weightless m
+  none-same = ap₂ (λ (a b : ℕ). eqb (a * 256 + b) 0) (A .same 13 (omega arith)) (A .same 14 (omega arith))
+
+  carried-same : carriedIn l ≡ carriedIn m
+  carried-same = λ k. cond (none-same k) 0 (cells (rows-same k) (columns-same k))
 
   -- .. so is a number that ends within those bytes, and a list of numbers that does, ..
   module _ {T : Type 0} {w : ℕ} {write : T → List ℕ} {read : List ℕ → ℕ → T} {Fits : T → Type 0} (c : Code w write read Fits) where
@@ -137,20 +152,27 @@ module _ (l m : List ℕ) (A : Agree enough l m) where
     low : n ≤ 1024
     low = few-cells s
 
-    weights-same : tabulate (cellsIn l) (λ i. wordAt l (weightsOffset + 2 * i)) ≡ tabulate n (λ i. wordAt m (weightsOffset + 2 * i))
-    weights-same = rw (rows-same, columns-same) (list-same word-code 0 weightsOffset n (omega (arith, low)))
+    -- as many weights as the file has
+    abbrev w : ℕ
+    w = carriedIn m
+
+    few : w ≤ n
+    few = carried-low (weightless m) n
+
+    weights-same : tabulate (carriedIn l) (λ i. wordAt l (weightsOffset + 2 * i)) ≡ tabulate w (λ i. wordAt m (weightsOffset + 2 * i))
+    weights-same = rw (carried-same) (list-same word-code 0 weightsOffset w (omega (arith, low, few)))
 
     optional-same : gaugedParts l ≡ gaugedParts m
-    optional-same = rw (rows-same, columns-same) (parts-same A gaugedOptional (endOffset n t) (gauged-near s))
+    optional-same = rw (carried-same, rows-same, columns-same) (parts-same A gaugedOptional (endOffset w t) (gauged-near w few s))
 
-    gauge-same : gaugeIn l ≡ gaugeIn m
-    gauge-same =
-        let end = gauged-near s in
-        let thicknesses : gaugeIn l .thicknesses ≡ gaugeIn m .thicknesses =
-        rw (rows-same, columns-same) (tabulate-same 0 t _ _ (λ j b. A .same (thicknessesOffset n + j) (omega (arith, end)))) in
-        let wedge : gaugeIn l .wedge ≡ gaugeIn m .wedge =
-        rw (rows-same, columns-same) (number-same signed-long-code (wedgeOffset n t) (omega (arith, end))) in
-        let steps : gaugeIn l .steps ≡ gaugeIn m .steps = ap (λ ps. stepsOf (getD ps 0 absent)) optional-same in
+    numbers-same : numbersIn l ≡ numbersIn m
+    numbers-same =
+        let end = gauged-near w few s in
+        let thicknesses : numbersIn l .thicknesses ≡ numbersIn m .thicknesses =
+        rw (carried-same, rows-same, columns-same) (tabulate-same 0 t _ _ (λ j b. A .same (thicknessesOffset w + j) (omega (arith, end)))) in
+        let wedge : numbersIn l .wedge ≡ numbersIn m .wedge =
+        rw (carried-same, rows-same, columns-same) (number-same signed-long-code (wedgeOffset w t) (omega (arith, end))) in
+        let steps : numbersIn l .steps ≡ numbersIn m .steps = ap (λ ps. stepsOf (getD ps 0 absent)) optional-same in
         λ k. record {
           rows = rows-same k;
           columns = columns-same k;
@@ -161,12 +183,12 @@ module _ (l m : List ℕ) (A : Agree enough l m) where
           steps = steps k;
         }
 
-    film-same : filmIn l ≡ filmIn m
-    film-same =
-        let diagonals : filmIn l .diagonals ≡ filmIn m .diagonals = rw (rows-same, columns-same) (list-same long-code 0 (diagonalsOffset n) n (omega (arith, low))) in
-        let rights : filmIn l .rights ≡ filmIn m .rights = rw (rows-same, columns-same) (list-same long-code 0 (rightsOffset n) n (omega (arith, low))) in
-        let ups : filmIn l .ups ≡ filmIn m .ups = rw (rows-same, columns-same) (list-same long-code 0 (upsOffset n) n (omega (arith, low))) in
-        let sources : filmIn l .sources ≡ filmIn m .sources = rw (rows-same, columns-same) (list-same signed-quad-code (pos 0) (sourcesOffset n) n (omega (arith, low))) in
+    coefficients-stand : coefficientsIn l ≡ coefficientsIn m
+    coefficients-stand =
+        let diagonals : coefficientsIn l .diagonals ≡ coefficientsIn m .diagonals = rw (carried-same, rows-same, columns-same) (list-same long-code 0 (diagonalsOffset w) n (omega (arith, low, few))) in
+        let rights : coefficientsIn l .rights ≡ coefficientsIn m .rights = rw (carried-same, rows-same, columns-same) (list-same long-code 0 (rightsOffset w n) n (omega (arith, low, few))) in
+        let ups : coefficientsIn l .ups ≡ coefficientsIn m .ups = rw (carried-same, rows-same, columns-same) (list-same long-code 0 (upsOffset w n) n (omega (arith, low, few))) in
+        let sources : coefficientsIn l .sources ≡ coefficientsIn m .sources = rw (carried-same, rows-same, columns-same) (list-same signed-quad-code (pos 0) (sourcesOffset w n) n (omega (arith, low, few))) in
         λ k. record {
           rows = rows-same k;
           columns = columns-same k;
@@ -179,33 +201,34 @@ module _ (l m : List ℕ) (A : Agree enough l m) where
         }
 
     -- so both readers read the two files alike, and the same one is chosen
-    local : AllLocal (gauged n t ++ present gaugedOptional (gaugedParts m))
+    local : AllLocal (gauged w t ++ present gaugedOptional (gaugedParts m))
     local =
-        append-local (gauged n t) (present gaugedOptional (gaugedParts m)) (gauged-local n t)
+        append-local (gauged w t) (present gaugedOptional (gaugedParts m)) (gauged-local w t)
         (present-local gaugedOptional (gaugedParts m) (steps-local, tt))
 
-    near : fieldsEnd (gauged n t ++ present gaugedOptional (gaugedParts m)) 0 < enough
-    near = omega (arith, present-end gaugedOptional (gaugedParts m) (endOffset n t), gauged-near s)
+    near : fieldsEnd (gauged w t ++ present gaugedOptional (gaugedParts m)) 0 < enough
+    near = omega (arith, present-end gaugedOptional (gaugedParts m) (endOffset w t), gauged-near w few s)
 
+    -- what is found, and whether it is, goes by the numbers that stand in the file
     gauged-same : readFilm l ≡ readFilm m
     unfolding fileCheck
     gauged-same =
-        let checks : fileCheck l ≡ fileCheck m =
-        (λ k. fieldsCheck (gauged (cells (rows-same k) (columns-same k)) (ringed (rows-same k) (columns-same k)) ++ present gaugedOptional (optional-same k)) l
-        orElse gaugeDominance (gauge-same k))
-        ∙ ap (λ c. c orElse gaugeDominance (gaugeIn m)) (fields-same (gauged n t ++ present gaugedOptional (gaugedParts m)) local near) in
-        ap₂ answerBy checks gauge-same
+        (λ k. answerBy
+        (fieldsCheck (gauged (carried-same k) (ringed (rows-same k) (columns-same k)) ++ present gaugedOptional (optional-same k)) l orElse heldCheck (none-same k) (formed (numbers-same k)))
+        (weightedGauge (numbers-same k) (weightsFor (none-same k) (formed (numbers-same k)))))
+        ∙ ap (λ c. answerBy (c orElse heldCheck (weightless m) (formed (numbersIn m))) (gaugeIn m)) (fields-same (gauged w t ++ present gaugedOptional (gaugedParts m)) local near)
 
     coefficients-same : readCoefficients l ≡ readCoefficients m
     unfolding coefficientFileCheck
     coefficients-same =
-        let checks : coefficientFileCheck l ≡ coefficientFileCheck m =
-        ap (λ (f : Film). fieldsCheck (coefficientFields (sizeOf f)) l orElse coefficientCheck f orElse dominanceCheck f) film-same
-        ∙ ap (λ c. c orElse coefficientCheck (filmIn m) orElse dominanceCheck (filmIn m)) (fields-same (coefficientFields n) (coefficients-local n) (omega (arith, low))) in
-        ap₂ answerBy checks film-same
+        (λ k. answerBy
+        (fieldsCheck (coefficientFields (carried-same k) (cells (rows-same k) (columns-same k))) l orElse coefficientCheck (coefficients-stand k) orElse heldCheck (none-same k) (coefficients-stand k))
+        (weighted (coefficients-stand k) (weightsFor (none-same k) (coefficients-stand k))))
+        ∙ ap (λ c. answerBy (c orElse coefficientCheck (coefficientsIn m) orElse heldCheck (weightless m) (coefficientsIn m)) (filmIn m))
+        (fields-same (coefficientFields w n) (coefficients-local w n) (omega (arith, low, few)))
 
     tag-same : tagged06 l ≡ tagged06 m
-    tag-same = rw (rows-same, columns-same) (ap (λ b. eqb b 6) (A .same (fieldsEnd (opening n) 0) (omega (arith, low))))
+    tag-same = rw (carried-same) (ap (λ b. eqb b 6) (A .same (fieldsEnd (opening w) 0) (omega (arith, low, few))))
 
     shaped-same : readEither l ≡ readEither m
     shaped-same = λ k. cond (tag-same k) (coefficients-same k) (formedBy (gauged-same k))

@@ -9,12 +9,12 @@ use Rattle.model.specs.Coefficients.{formed}
 use Rattle.model.specs.Result.{Answer, answered, refused}
 use Rattle.model.specs.Bytes.{byteAt}
 use Rattle.model.specs.Fields.{fieldsEnd}
-use Rattle.model.specs.File.{opening, cellsIn, readFilm}
+use Rattle.model.specs.File.{opening, carriedIn, readFilm}
 use Rattle.model.specs.CoefficientFile.{readCoefficients}
 
 -- whether the byte after field 03 is the first tag of a coefficient film's own
 abbrev pub tagged06 : List ℕ → Bool
-tagged06 bytes = eqb (byteAt bytes (fieldsEnd (opening (cellsIn bytes)) 0)) 6
+tagged06 bytes = eqb (byteAt bytes (fieldsEnd (opening (carriedIn bytes)) 0)) 6
 
 -- the film that a gauged film's numbers form
 abbrev pub formedBy : Answer Gauge → Answer Film

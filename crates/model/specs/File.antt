@@ -1,6 +1,6 @@
--- Document 01, "The film file", and document 02, W2: the fields of a film's file, what the reader refuses and in what order, and the file of a film.
+-- Document 01, "The film file", and document 02, W2 and W5: the fields of a film's file, what the reader refuses and in what order, and the file of a film.
 use mathlib.Core.Path.{_≡_}
-use mathlib.Core.Bool.{Bool, not}
+use mathlib.Core.Bool.{Bool, not, cond}
 use mathlib.Core.List.{List, [], _∷_, _++_}
 use Prim.Native.Nat.{ℕ, _+_, _*_, _<_}
 use lib.Dec.{ltb, eqb}
@@ -9,12 +9,13 @@ use lib.ListN.{length, getD}
 use Rattle.model.specs.Limits.{thicknessLimit, wedgeLimit, stepLimit}
 use Rattle.model.specs.Lists.{tabulate}
 use Rattle.model.specs.Refusals.{Check, pass, _orElse_, failIf, failFirst}
-use Rattle.model.specs.Gauge.{Gauge}
+use Rattle.model.specs.Gauge.{Gauge, weightedGauge}
 use Rattle.model.specs.Coefficients.{formed}
 use Rattle.model.specs.Checks.{outside, shapeCheck, ceilingCheck, notDominant}
+use Rattle.model.specs.Weighing.{weightsFor, heldCheck}
 use Rattle.model.specs.Result.{Answer, answerBy}
 use Rattle.model.specs.Bytes.{byteAt, wordAt, longAt, word, long, signedOf, unsignedOf, listed}
-use Rattle.model.specs.Fields.{Field, body, fieldsEnd, walk, unexpectedAt, bytesOf, Optional, absent, given, partsIn, present, givens, fieldsIn}
+use Rattle.model.specs.Fields.{Field, body, fieldsEnd, walk, unexpectedAt, field, bytesOf, Optional, absent, given, partsIn, present, givens, fieldsIn}
 use Rattle.model.specs.declared.Factors.{Factors}
 use Rattle.model.specs.declared.Steps.{Steps}
 use Rattle.model.specs.declared.Steps.the-variants as steps
@@ -52,7 +53,7 @@ shapeField =
 abbrev pub ceilingField : Field
 ceilingField = record { tag = 2; size = 4; check = λ bytes at. ceilingCheck (longAt bytes at) at }
 
--- n cells
+-- n weights
 abbrev pub weightsField : ℕ → Field
 weightsField n =
     record { tag = 3; size = 2 * n; check = λ bytes at. weightsFrom (λ i. wordAt bytes (at + 2 * i)) n at }
@@ -71,7 +72,7 @@ factorsAt bytes at = record { along = byteAt bytes at; across = byteAt bytes (at
 abbrev pub stepsField : Field
 stepsField = record { tag = 10; size = 2; check = λ bytes at. factorsFrom (factorsAt bytes at) at }
 
--- The first three, which other kinds of file share; and the film's five.
+-- The first three, which other kinds of file share, in a file with n weights; and the film's five.
 abbrev pub opening : ℕ → List Field
 opening n = shapeField ∷ ceilingField ∷ weightsField n ∷ []
 
@@ -82,7 +83,7 @@ gauged n t = opening n ++ (thicknessesField t ∷ wedgeField ∷ [])
 abbrev pub gaugedOptional : List Field
 gaugedOptional = stepsField ∷ []
 
--- Where the numbers of a film of n cells and t thicknesses stand: weight i at 2 × i behind the first, thickness j at j.
+-- Where the numbers stand in a file with n weights and t thicknesses: weight i at 2 × i behind the first, thickness j at j.
 abbrev pub rowsOffset : ℕ
 rowsOffset = body 0
 
@@ -114,6 +115,16 @@ cellsIn bytes = cells (byteAt bytes rowsOffset) (byteAt bytes columnsOffset)
 abbrev pub ringIn : List ℕ → ℕ
 ringIn bytes = ringed (byteAt bytes rowsOffset) (byteAt bytes columnsOffset)
 
+-- W5: "A weight field of length 0", which leaves the weights to the program; and as many of n weights as the file then has
+abbrev pub weightless : List ℕ → Bool
+weightless bytes = eqb (wordAt bytes (fieldsEnd (shapeField ∷ ceilingField ∷ []) 0 + 1)) 0
+
+abbrev pub carried : List ℕ → ℕ → ℕ
+carried bytes n = cond (weightless bytes) 0 n
+
+abbrev pub carriedIn : List ℕ → ℕ
+carriedIn bytes = carried bytes (cellsIn bytes)
+
 -- a film's steps as the body of an optional field, and back
 abbrev pub stepsPart : Steps → Optional (List ℕ)
 stepsPart steps.Absent = absent
@@ -125,20 +136,28 @@ stepsOf (given bytes) = steps.Given (factorsAt bytes 0)
 
 -- what a file has of the optional fields
 abbrev pub gaugedParts : List ℕ → List (Optional (List ℕ))
-gaugedParts bytes = partsIn gaugedOptional bytes (endOffset (cellsIn bytes) (ringIn bytes))
+gaugedParts bytes = partsIn gaugedOptional bytes (endOffset (carriedIn bytes) (ringIn bytes))
+
+-- the fields of the film whose shape stands in a file
+abbrev pub gaugedIn : List ℕ → List Field
+gaugedIn bytes = fieldsIn (gauged (carriedIn bytes) (ringIn bytes)) gaugedOptional bytes
 
 -- the numbers that stand in a file
-abbrev pub gaugeIn : List ℕ → Gauge
-gaugeIn bytes =
+abbrev pub numbersIn : List ℕ → Gauge
+numbersIn bytes =
     record {
       rows = byteAt bytes rowsOffset;
       columns = byteAt bytes columnsOffset;
       ceiling = longAt bytes ceilingOffset;
-      weights = tabulate (cellsIn bytes) (λ i. wordAt bytes (weightsOffset + 2 * i));
-      thicknesses = tabulate (ringIn bytes) (λ j. byteAt bytes (thicknessesOffset (cellsIn bytes) + j));
-      wedge = signedOf (longAt bytes (wedgeOffset (cellsIn bytes) (ringIn bytes)));
+      weights = tabulate (carriedIn bytes) (λ i. wordAt bytes (weightsOffset + 2 * i));
+      thicknesses = tabulate (ringIn bytes) (λ j. byteAt bytes (thicknessesOffset (carriedIn bytes) + j));
+      wedge = signedOf (longAt bytes (wedgeOffset (carriedIn bytes) (ringIn bytes)));
       steps = stepsOf (getD (gaugedParts bytes) 0 absent);
     }
+
+-- the film's numbers: those, and the weights that are found where the file has none
+abbrev pub gaugeIn : List ℕ → Gauge
+gaugeIn bytes = weightedGauge (numbersIn bytes) (weightsFor (weightless bytes) (formed (numbersIn bytes)))
 
 -- 9, of the coefficients that the film's numbers form
 unfoldable pub gaugeDominance : Gauge → Check
@@ -148,12 +167,11 @@ gaugeDominance g = failFirst (notDominant (formed g)) (g .rows * g .columns) 9 (
 abbrev pub fieldsCheck : List Field → List ℕ → Check
 fieldsCheck fields bytes = walk fields bytes 0 orElse unexpectedAt bytes (fieldsEnd fields 0)
 
--- the fields of the film whose shape stands in a file; then 9
+-- the fields; then 9, or 16 and 17
 unfoldable pub fileCheck : List ℕ → Check
-fileCheck bytes =
-    fieldsCheck (fieldsIn (gauged (cellsIn bytes) (ringIn bytes)) gaugedOptional bytes) bytes orElse gaugeDominance (gaugeIn bytes)
+fileCheck bytes = fieldsCheck (gaugedIn bytes) bytes orElse heldCheck (weightless bytes) (formed (numbersIn bytes))
 
--- a film file is accepted, and its numbers are those that stand in it; or it is refused with a number and a place
+-- a film file is accepted, and these are its film's numbers; or it is refused with a number and a place
 abbrev pub readFilm : List ℕ → Answer Gauge
 readFilm bytes = answerBy (fileCheck bytes) (gaugeIn bytes)
 
@@ -206,3 +224,11 @@ pub record Values (g : Gauge) : Type 0 where
   pub ceiling-long : g .ceiling < 4294967296
   pub weight-word : (i : ℕ) → getD (g .weights) i 0 < 65536
   pub thickness-byte : (j : ℕ) → getD (g .thicknesses) j 0 < 256
+
+-- W5: "Such a file writes back with its found weights in place": an empty field 03, and the field with these weights between the same bytes
+pub record InPlace (weights bytes out : List ℕ) : Type 0 where
+  pub front : List ℕ
+  pub back : List ℕ
+  pub front-len : length front ≡ fieldsEnd (shapeField ∷ ceilingField ∷ []) 0
+  pub was : bytes ≡ front ++ field 3 0 [] ++ back
+  pub is : out ≡ front ++ field 3 (2 * length weights) (weightBytes weights) ++ back

@@ -37,6 +37,20 @@ filmOf h weights diagonals rights ups sources =
       sources = sources;
     }
 
+-- a film with other weights
+abbrev pub weighted : Film → List ℕ → Film
+weighted f weights =
+    record {
+      rows = f .rows;
+      columns = f .columns;
+      ceiling = f .ceiling;
+      weights = weights;
+      diagonals = f .diagonals;
+      rights = f .rights;
+      ups = f .ups;
+      sources = f .sources;
+    }
+
 -- the number of cells, N
 abbrev pub sizeOf : Film → ℕ
 sizeOf f = f .rows * f .columns

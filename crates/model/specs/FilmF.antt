@@ -13,6 +13,7 @@ use Rattle.model.specs.Margin.{margin}
 use Rattle.model.specs.Estimate.{estimate}
 use Rattle.model.specs.Report.{refusedLine, reportOf}
 use Rattle.model.specs.Run.{RunAnswer, done, stopped, over, runCall}
+use Rattle.model.specs.Weighing.{weightSearch}
 use Rattle.model.specs.File.{columnsOffset, readFilm, fileOf}
 use Rattle.model.specs.CoefficientFile.{readCoefficients, coefficientFileOf}
 use Rattle.model.specs.declared.Counts.{Counts}
@@ -186,3 +187,32 @@ pub record StepEdges : Type 0 where
   pub before-05 : readFilm (take 34 bytesF ++ stepBytes 2 3 ++ drop 34 bytesF) ≡ refused 2 34
   pub in-coefficients : readCoefficients (convertedF ++ stepBytes 2 3) ≡ refused 2 71
   pub converted : reportOf (coefficientFileOf (formed (steppedF (stepsOn 2 3)))) ≡ reportOf (bytesF ++ stepBytes 2 3)
+
+-- Document 02, W5: a film's file with field 03 emptied, and that of a film of two cells with a diagonal and a link exchanged there: the first link is 65,563, and
+-- the second diagonal as given
+abbrev pub unweighted : List ℕ → List ℕ
+unweighted bytes = take 12 bytes ++ (0x03 ∷ 0x00 ∷ 0x00 ∷ []) ++ drop 19 bytes
+
+abbrev pub strained : ℕ → List ℕ
+strained diagonal = set (set (unweighted convertedF) 30 1) 25 diagonal
+
+-- Its weights 1 1 are found in four relaxations, so it is read as with them, and its report is the same, of either kind; numbers behind field 03 stand four bytes earlier, in
+-- refusals too. Over is 16 at its cell, after stray and 14.
+pub record WeightEdges : Type 0 where
+  pub found : weightSearch filmF ≡ record { answer = done (record { visits = 4; raises = 2; accepted = 0 }); lent = 1 ∷ 1 ∷ [] }
+  pub reads : readFilm (unweighted bytesF) ≡ answered (gaugeF 100 (pos 100))
+  pub report : reportOf (unweighted bytesF) ≡ reportF
+  pub coefficients : readCoefficients (unweighted convertedF) ≡ answered filmF
+  pub coefficients-report : reportOf (unweighted convertedF) ≡ reportF
+  pub without-last : readFilm (take 36 (unweighted bytesF)) ≡ refused 1 36
+  pub with-another : readFilm (unweighted bytesF ++ (0 ∷ [])) ≡ refused 2 37
+  pub thickness-0 : readFilm (set (unweighted bytesF) 18 0) ≡ refused 7 18
+  pub wedge-high : readFilm (set (unweighted bytesF) 33 0x7f) ≡ refused 8 33
+  pub with-steps : readFilm (unweighted bytesF ++ stepBytes 4 5) ≡ refused 15 41
+  pub of-two : readFilm (set (unweighted bytesF) 14 2) ≡ refused 3 12
+  pub not-gauged : readFilm (unweighted convertedF) ≡ refused 2 15
+  pub not-coefficients : readCoefficients (unweighted bytesF) ≡ refused 2 15
+  pub over-0 : readCoefficients (strained 0x33) ≡ refused 16 0
+  pub over-1 : readCoefficients (strained 1) ≡ refused 16 1
+  pub after-14 : readCoefficients (set (strained 1) 21 0) ≡ refused 14 0
+  pub after-stray : readCoefficients (strained 1 ++ (0 ∷ [])) ≡ refused 2 67

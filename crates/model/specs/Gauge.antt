@@ -18,6 +18,19 @@ pub record Gauge : Type 0 where
   pub wedge : ℤ
   pub steps : Steps
 
+-- a film's numbers with other weights
+abbrev pub weightedGauge : Gauge → List ℕ → Gauge
+weightedGauge g weights =
+    record {
+      rows = g .rows;
+      columns = g .columns;
+      ceiling = g .ceiling;
+      weights = weights;
+      thicknesses = g .thicknesses;
+      wedge = g .wedge;
+      steps = g .steps;
+    }
+
 abbrev pub thicknessAt : Gauge → ℕ → ℕ → ℕ
 thicknessAt g r c = getD (g .thicknesses) (r * (g .columns + 2) + c) 0
 

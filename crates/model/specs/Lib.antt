@@ -32,6 +32,7 @@ pub mod Margin
 pub mod Estimate
 -- "A run", and demand 3
 pub mod Run
+pub mod Weighing
 pub mod Demand
 pub mod Session
 -- "The report"

@@ -1,4 +1,4 @@
--- Document 01's limits, and document 02's (W2).
+-- Document 01's limits, and document 02's (W2, W5).
 use Prim.Native.Nat.{ℕ}
 
 -- rows and columns
@@ -19,6 +19,10 @@ wedgeLimit = 1000000000
 -- along and across
 abbrev pub stepLimit : ℕ
 stepLimit = 4
+
+-- a weight has two bytes in a file
+abbrev pub weightLimit : ℕ
+weightLimit = 65535
 
 abbrev pub diagonalLimit : ℕ
 diagonalLimit = 268435456

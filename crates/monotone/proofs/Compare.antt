@@ -1,7 +1,7 @@
 -- The comparison principle (discrete maximum principle): where weights show that the matrix is Minkowski, a field x whose row sum is
 -- at most that of z in each cell where x is above z, is nowhere above z. Take the cell with the greatest excess in proportion to its
 -- weight; fractions are compared by cross-multiplication.
-use mathlib.Core.Path.{_≡_, ap}
+use mathlib.Core.Path.{_≡_, refl, ap}
 use mathlib.Core.List.{List, [], _∷_}
 use Prim.Native.Nat.{ℕ, zero, suc, _+_, _-_, _*_, _≤_, _<_, zero-le}
 use native.Mathlib.Nat.{le-refl, le-trans, le-antisymm, mul-add, add-mul, mul-assoc, mul-left-comm, mul-right-comm, mul-le-mul-left, mul-le-mul-right, le-of-mul-le-mul-right, mul-lt-mul-of-pos-left, zero-mul, sub-eq-zero-of-le, mul-pos}
@@ -12,6 +12,12 @@ use Rattle.monotone.specs.Links.{pull}
 pub pull-mono : (ls : List (ℕ × ℕ)) {p q : ℕ → ℕ} → ((j : ℕ) → p j ≤ q j) → pull ls p ≤ pull ls q
 pull-mono [] h = le-refl 0
 pull-mono (l ∷ ls) h = omega (arith, mul-le-mul-left (l .1) (h (l .0)), pull-mono ls h)
+
+pub pull-add : (ls : List (ℕ × ℕ)) (a b c : ℕ → ℕ) → ((j : ℕ) → a j ≡ b j + c j) → pull ls a ≡ pull ls b + pull ls c
+pull-add [] a b c h = refl
+pull-add (l ∷ ls) a b c h =
+    let here : l .1 * a (l .0) ≡ l .1 * (b (l .0) + c (l .0)) = ap (λ (k : ℕ). l .1 * k) (h (l .0)) in
+    omega (arith, here, mul-add (l .1) (b (l .0)) (c (l .0)), pull-add ls a b c h)
 
 pull-split : (ls : List (ℕ × ℕ)) (x z d : ℕ → ℕ) → ((j : ℕ) → x j ≤ z j + d j) → pull ls x ≤ pull ls z + pull ls d
 pull-split [] x z d h = zero-le

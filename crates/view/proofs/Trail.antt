@@ -13,7 +13,7 @@ use lib.Dec.{ltb, eqb}
 use Rattle.model.specs.Refusals.{Check, pass, fail, _orElse_, checkOf}
 use Rattle.model.specs.Bytes.{byteAt}
 use Rattle.model.specs.Fields.{Field, behind, fieldsEnd, walk, past, partsIn, present}
-use Rattle.model.specs.File.{shapeField, ceilingField, weightsField, thicknessesField, wedgeField, gauged, gaugedOptional}
+use Rattle.model.specs.File.{shapeField, ceilingField, weightsField, thicknessesField, wedgeField, gauged, gaugedOptional, carried}
 use Rattle.model.specs.CoefficientFile.{diagonalsField, rightsField, upsField, sourcesField}
 use Rattle.model.proofs.Optional.{partIf, Rising}
 use Rattle.fields.specs.Tags.{fieldFor, testOf, Room}
@@ -39,14 +39,14 @@ module _ (l : List ℕ) (n t last : ℕ) where
   Follow tag at [] = after-tag tag at ≡ 0
   Follow tag at (f ∷ fs) =
       let next = after-tag tag at in
-      ((tag < next) × (next ≤ 10)) × ((fieldFor next n t ≡ f) × (f .tag ≡ next)) × Follow next (behind at (f .size)) fs
+      ((tag < next) × (next ≤ 10)) × ((fieldFor l next n t ≡ f) × (f .tag ≡ next)) × Follow next (behind at (f .size)) fs
 
   -- ---- optional fields
 
   -- each is the one that its tag names
   abbrev Named : List Field → Type 0
   Named [] = Unit {0}
-  Named (f ∷ fs) = ((fieldFor (f .tag) n t ≡ f) × (f .tag ≤ 10)) × Named fs
+  Named (f ∷ fs) = ((fieldFor l (f .tag) n t ≡ f) × (f .tag ≤ 10)) × Named fs
 
   -- one whose tag does not stand there, or that is not behind a tag, is not the next
   skipped : (f : Field) (fs : List Field) (tag byte : ℕ) → (eqb byte (f .tag) && ltb tag (f .tag)) ≡ false → nextOptional (f ∷ fs) tag byte ≡ nextOptional fs tag byte
@@ -84,7 +84,7 @@ module _ (l : List ℕ) (n t last : ℕ) where
           let up : ltb tag (f .tag) ≡ true = lt-ltb tag (f .tag) (omega (arith, r .0)) in
           let next : after-tag tag at ≡ f .tag = here ∙ ap₂ (λ a b. cond (a && b) (byteAt l at) (nextOptional fs tag (byteAt l at))) e up ∙ same in (
             (omega (arith, next, r .0), omega (arith, next, named .0 .1)),
-            (ap (λ (k : ℕ). fieldFor k n t) next ∙ named .0 .0, sym next),
+            (ap (λ (k : ℕ). fieldFor l k n t) next ∙ named .0 .0, sym next),
             subst (λ (k : ℕ). Follow k (behind at (f .size)) (present fs (partsIn fs l (behind at (f .size))))) (sym next) (there e),
           )
       go false e there none = none e
@@ -96,11 +96,11 @@ module _ (l : List ℕ) (n t last : ℕ) where
     pub low : 1 ≤ tag
     pub high : tag ≤ 10
     pub near : at ≤ (tag - 1) * 520203
-    pub named : fieldFor tag n t .tag ≡ tag
+    pub named : fieldFor l tag n t .tag ≡ tag
     pub others : List Field
-    pub follow : Follow tag (behind at (fieldFor tag n t .size)) others
-    pub tests : walk (kindOf last n t l) l 0 ≡ walk (fieldFor tag n t ∷ others) l at
-    pub end : fieldsEnd (kindOf last n t l) 0 ≡ fieldsEnd (fieldFor tag n t ∷ others) at
+    pub follow : Follow tag (behind at (fieldFor l tag n t .size)) others
+    pub tests : walk (kindOf last n t l) l 0 ≡ walk (fieldFor l tag n t ∷ others) l at
+    pub end : fieldsEnd (kindOf last n t l) 0 ≡ fieldsEnd (fieldFor l tag n t ∷ others) at
 
   -- the film's sides are small, so no field stands far from the start
   module _ (few : (n ≤ 65025) × (t ≤ 66049) × Last last) {tag at : ℕ} (o : On tag at) where
@@ -108,7 +108,7 @@ module _ (l : List ℕ) (n t last : ℕ) where
     room = record { at-low = omega (arith, o .near, o .high); cells-few = few .0; ring-few = few .1 }
 
     abbrev f : Field
-    f = fieldFor tag n t
+    f = fieldFor l tag n t
 
     abbrev after : ℕ
     after = behind at (f .size)
@@ -124,13 +124,13 @@ module _ (l : List ℕ) (n t last : ℕ) where
       on-with [] p tests end same more next = absurd (more (same ∙ p))
       on-with (g ∷ gs) p tests end same more next =
           let up : tag < s .tag = omega (arith, same, p .0 .0) in
-          let is : fieldFor (s .tag) n t ≡ g = ap (λ (k : ℕ). fieldFor k n t) same ∙ p .1 .0 in
+          let is : fieldFor l (s .tag) n t ≡ g = ap (λ (k : ℕ). fieldFor l k n t) same ∙ p .1 .0 in
           let behind-it : Follow (s .tag) (behind after (g .size)) gs = subst (λ (k : ℕ). Follow k (behind after (g .size)) gs) (sym same) (p .2) in
           let on : On (s .tag) (s .next) =
           record {
             low = omega (arith, up);
             high = omega (arith, same, p .0 .1);
-            near = omega (arith, next, up, o .near, o .low, size-low tag n t (few .0) (few .1));
+            near = omega (arith, next, up, o .near, o .low, size-low l tag n t (few .0) (few .1));
             named = ap (λ h. h .tag) is ∙ p .1 .1 ∙ sym same;
             others = gs;
             follow = subst (λ (k : ℕ). Follow (s .tag) k gs) (λ i. behind (sym next i) (sym is i .size)) behind-it;
@@ -187,11 +187,11 @@ module _ (l : List ℕ) (n t : ℕ) where
 
   gauged-first : On l n t 5 1 0
   gauged-first =
-      let end : ℕ = fieldsEnd (gauged n t) 0 in
+      let end : ℕ = fieldsEnd (gauged (carried l n) t) 0 in
       let optional : Follow l n t 5 5 end (present gaugedOptional (partsIn gaugedOptional l end)) =
       follow-optional l n t 5 gaugedOptional 5 5 end (omega arith, tt) ((refl, omega arith), tt) (omega arith) refl
       (λ k byte h. ap (λ b. cond b (k + 1) (nextOptional gaugedOptional k byte)) (le-ltb k 5 (omega arith))) in
-      first 5 (ceilingField ∷ weightsField n ∷ thicknessesField t ∷ wedgeField ∷ present gaugedOptional (partsIn gaugedOptional l end)) refl (
+      first 5 (ceilingField ∷ weightsField (carried l n) ∷ thicknessesField t ∷ wedgeField ∷ present gaugedOptional (partsIn gaugedOptional l end)) refl (
         (omega arith, omega arith),
         (refl, refl),
         ((omega arith, omega arith), (refl, refl), ((omega arith, omega arith), (refl, refl), ((omega arith, omega arith), (refl, refl), optional))),
@@ -199,7 +199,7 @@ module _ (l : List ℕ) (n t : ℕ) where
 
   coefficients-first : On l n t 9 1 0
   coefficients-first =
-      first 9 (ceilingField ∷ weightsField n ∷ diagonalsField n ∷ rightsField n ∷ upsField n ∷ sourcesField n ∷ []) refl
+      first 9 (ceilingField ∷ weightsField (carried l n) ∷ diagonalsField n ∷ rightsField n ∷ upsField n ∷ sourcesField n ∷ []) refl
       ((omega arith, omega arith), (refl, refl), ((omega arith, omega arith), (refl, refl), ((omega arith, omega arith), (refl, refl), ((omega arith, omega arith), (refl, refl), ((omega arith, omega arith), (refl, refl), ((omega arith, omega arith), (refl, refl), refl))))))
 
   pub begins : {last : ℕ} → Last last → On l n t last 1 0

@@ -8,7 +8,7 @@ use lib.Dec.{ltb, eqb}
 use Rattle.model.specs.Refusals.{Check, pass, fail, checkOf}
 use Rattle.model.specs.Bytes.{byteAt}
 use Rattle.model.specs.Fields.{Field, behind, fieldsEnd, walk, fieldsIn}
-use Rattle.model.specs.File.{gauged, gaugedOptional}
+use Rattle.model.specs.File.{gauged, gaugedOptional, carried}
 use Rattle.model.specs.CoefficientFile.{coefficientFields, coefficientOptional}
 use Rattle.fields.specs.Tags.{fieldFor, testOf}
 use Rattle.view.specs.declared.Step.{Step}
@@ -17,16 +17,16 @@ use Rattle.view.specs.declared.Step.{Step}
 abbrev pub Last : ℕ → Type 0
 Last last = (last ≡ 5) ⊎ (last ≡ 9)
 
--- the fields that a file of that kind has, and those that may follow them
-abbrev pub requiredOf : ℕ → ℕ → ℕ → List Field
-requiredOf last n t = cond (eqb last 9) (coefficientFields n) (gauged n t)
+-- the fields that a file of that kind with w weights has, and those that may follow them
+abbrev pub requiredOf : ℕ → ℕ → ℕ → ℕ → List Field
+requiredOf last w n t = cond (eqb last 9) (coefficientFields w n) (gauged w t)
 
 abbrev pub optionalOf : ℕ → List Field
 optionalOf last = cond (eqb last 9) coefficientOptional gaugedOptional
 
--- the fields of a file of that kind
+-- the fields of a file of that kind, which has n weights or none
 abbrev pub kindOf : ℕ → ℕ → ℕ → List ℕ → List Field
-kindOf last n t bytes = fieldsIn (requiredOf last n t) (optionalOf last) bytes
+kindOf last n t bytes = fieldsIn (requiredOf last (carried bytes n) n t) (optionalOf last) bytes
 
 -- the tag of the next optional field behind a tag, where that byte stands: the byte, if it is the tag of a later one, else 0
 abbrev pub nextOptional : List Field → ℕ → ℕ → ℕ
@@ -45,8 +45,8 @@ tagAfter (fail number place) last tag byte = 0
 
 -- a step of the walk: what the field's test finds and, where it passes, the offset behind the field; and the tag of the next field
 pub record Takes (last n t tag : ℕ) (bytes : List ℕ) (at : ℕ) (s : Step) : Type 0 where
-  pub finds : checkOf (s .tested) ≡ testOf (fieldFor tag n t) tag bytes at
-  pub goes-on : checkOf (s .tested) ≡ pass → s .next ≡ behind at (fieldFor tag n t .size)
+  pub finds : checkOf (s .tested) ≡ testOf (fieldFor bytes tag n t) tag bytes at
+  pub goes-on : checkOf (s .tested) ≡ pass → s .next ≡ behind at (fieldFor bytes tag n t .size)
   pub then : s .tag ≡ tagAfter (checkOf (s .tested)) last tag (byteAt bytes (s .next))
 
 -- what the fields' tests find, one after another, and, where all pass, the offset behind the last

@@ -5,9 +5,9 @@
 use crate::checks::check_limits;
 use crate::coefficients::{form, Coefficients, System};
 use crate::film::{
-    after_weights, body, check_dominance, optional_bodies, put_field, read_opening, write_opening,
-    Film,
+    after_weights, body, optional_bodies, put_field, read_opening, write_opening, Film,
 };
+use crate::weights::held;
 use crate::{Refusal, Whole};
 
 /// Length of each of the five buffers that a caller lends to the reader.
@@ -17,7 +17,7 @@ pub const COEFFICIENT_BUFFER: usize = 1_024;
 #[derive(Clone, Debug, PartialEq, Eq)]
 pub struct CoefficientFilm {
     pub ceiling: u32,
-    /// One for each cell, by index.
+    /// One for each cell, by index; none at all stand for an empty field 03.
     pub weights: Vec<u16>,
     pub coefficients: Coefficients,
 }
@@ -41,35 +41,50 @@ impl CoefficientFilm {
     }
 }
 
-/// Length of the coefficient file of a film with `rows` and `columns`.
+/// Length of the coefficient file that the writer makes of a film with `rows` and `columns`: its weights
+/// are in place.
 pub fn file_length(rows: usize, columns: usize) -> usize {
     27 + 22 * rows * columns
 }
 
-/// Where the headers of fields 06 to 09 lie.
+/// Where the headers of fields 06 to 09 lie in a file that carries its weights.
 pub fn headers(cells: usize) -> [usize; 4] {
-    let diagonals = after_weights(cells);
+    headers_from(after_weights(cells), cells)
+}
+
+/// The same with the first of them at `diagonals`.
+fn headers_from(diagonals: usize, cells: usize) -> [usize; 4] {
     let rights = diagonals + 3 + 4 * cells;
     let ups = rights + 3 + 4 * cells;
     let sources = ups + 3 + 4 * cells;
     [diagonals, rights, ups, sources]
 }
 
-/// Reads a coefficient file into numbers of its own. Each field is tested as in a film file, but
-/// fields 06 to 09 have no test of their values: their limits come after the bytes that follow, and
-/// dominance comes last. No optional field is permitted.
+/// Reads a coefficient file into numbers of its own. Its fields come first, and the bytes after them;
+/// then the limits of the coefficients; then dominance, or the search for weights where the file carries
+/// none.
 pub fn read(bytes: &[u8]) -> Result<CoefficientFilm, Refusal> {
+    let mut film = read_fields(bytes)?;
+    check_limits(film.system())?;
+    film.weights = held(film.coefficients.system(), film.weights)?;
+    Ok(film)
+}
+
+/// The numbers that a coefficient file's fields have, its weights empty where field 03 is. Each field is
+/// tested as in a film file, but fields 06 to 09 have no test of their values. No optional field is
+/// permitted.
+pub fn read_fields(bytes: &[u8]) -> Result<CoefficientFilm, Refusal> {
     let opening = read_opening(bytes)?;
     let (rows, columns) = (opening.rows, opening.columns);
     let cells = rows * columns;
-    let [at_diagonals, at_rights, at_ups, at_sources] = headers(cells);
+    let [at_diagonals, at_rights, at_ups, at_sources] = headers_from(opening.end, cells);
     let diagonals = unsigned(body(bytes, at_diagonals, 0x06, 4 * cells)?);
     let rights = unsigned(body(bytes, at_rights, 0x07, 4 * cells)?);
     let ups = unsigned(body(bytes, at_ups, 0x08, 4 * cells)?);
     let sources = signed(body(bytes, at_sources, 0x09, 8 * cells)?);
 
-    let [] = optional_bodies(bytes, file_length(rows, columns), [])?;
-    let film = CoefficientFilm {
+    let [] = optional_bodies(bytes, at_sources + 3 + 8 * cells, [])?;
+    Ok(CoefficientFilm {
         ceiling: opening.ceiling,
         weights: opening.weights,
         coefficients: Coefficients {
@@ -80,10 +95,7 @@ pub fn read(bytes: &[u8]) -> Result<CoefficientFilm, Refusal> {
             ups,
             sources,
         },
-    };
-    check_limits(film.system())?;
-    check_dominance(film.system(), &film.weights)?;
-    Ok(film)
+    })
 }
 
 /// Numbers of four bytes.
@@ -108,8 +120,8 @@ fn big_endian(number: &[u8]) -> Whole {
         .fold(0, |high, &low| 256 * high + Whole::from(low))
 }
 
-/// The bytes of a coefficient file, with no test at all: test vectors need refused files too. A
-/// number must have room in its field.
+/// The bytes of a coefficient file, with no test at all: test vectors need refused files too, and files
+/// without weights. A number must have room in its field.
 pub fn write(film: &CoefficientFilm) -> Vec<u8> {
     let coefficients = &film.coefficients;
     let shape = (film.rows(), film.columns());

@@ -125,7 +125,7 @@ fn meshes(list: &mut List) {
 }
 
 /// Random faces, some of them 0, and sources of both signs.
-fn rough(generator: &mut Generator, shape: (usize, usize)) -> CoefficientFilm {
+pub(crate) fn rough(generator: &mut Generator, shape: (usize, usize)) -> CoefficientFilm {
     let mut number = |low, high| Whole::from(generator.within(low, high));
     let numbers: Vec<[Whole; 4]> = (0..shape.0 * shape.1)
         .map(|_| {
@@ -412,17 +412,7 @@ fn wider_limits(list: &mut List) {
 /// All links and diagonals at the limits of W2: a diagonal is then the sum of four links, and only the
 /// rim loses. Equal weights hold no inner cell; the least ones do.
 fn all_at_wider_limits(list: &mut List) {
-    let film = |shape: (usize, usize), source: Whole| {
-        meshed(shape, HIGHEST, |r, c| {
-            let rim = [r == 1, r == shape.0, c == 1, c == shape.1];
-            Faces {
-                loss: LARGEST_LINK * rim.iter().filter(|&&out| out).count() as Whole,
-                right: LARGEST_LINK,
-                up: LARGEST_LINK,
-                source,
-            }
-        })
-    };
+    let film = at_wider_limits;
     list.coefficients("wider-limits-8x8", &film((8, 8), -LARGEST_SOURCE / 64));
     list.coefficients("wider-limits-1x32", &film((1, 32), -LARGEST_SOURCE / 2));
     list.coefficients("wider-limits-over", &film((32, 32), -LARGEST_SOURCE));
@@ -434,4 +424,17 @@ fn all_at_wider_limits(list: &mut List) {
     let mut equal = film((3, 3), -1);
     equal.weights = vec![u16::MAX; 9];
     list.coefficients("wider-limits-unheld", &equal);
+}
+
+/// One of them.
+pub(crate) fn at_wider_limits(shape: (usize, usize), source: Whole) -> CoefficientFilm {
+    meshed(shape, HIGHEST, |r, c| {
+        let rim = [r == 1, r == shape.0, c == 1, c == shape.1];
+        Faces {
+            loss: LARGEST_LINK * rim.iter().filter(|&&out| out).count() as Whole,
+            right: LARGEST_LINK,
+            up: LARGEST_LINK,
+            source,
+        }
+    })
 }

@@ -1,9 +1,10 @@
 //! The film file: its numbers, its reader and its writer (document 01, "The film file" and
-//! "Refusals"; document 02, W2). Fields 01 to 03, the walk over the optional fields and the tests of
-//! single numbers are those of a coefficient film too.
+//! "Refusals"; document 02, W2 and W5). Fields 01 to 03, the walk over the optional fields and the tests
+//! of single numbers are those of a coefficient film too.
 
 use crate::coefficients::{form, System};
 use crate::relax::first_not_dominant;
+use crate::weights::held;
 use crate::{refuse, Refusal, Whole};
 
 /// Length of the weight buffer that a caller lends to the reader.
@@ -40,7 +41,7 @@ pub struct Film {
     pub rows: usize,
     pub columns: usize,
     pub ceiling: u32,
-    /// One for each cell, by index.
+    /// One for each cell, by index; none at all stand for an empty field 03.
     pub weights: Vec<u16>,
     /// Rows 0 to R + 1, and in each of them columns 0 to C + 1: the boundary ring is included.
     pub thickness: Vec<u8>,
@@ -74,7 +75,8 @@ pub fn thickness_count(rows: usize, columns: usize) -> usize {
     (rows + 2) * (columns + 2)
 }
 
-/// Length of the file of a film with `rows` and `columns`, with or without field 0A.
+/// Length of the file that the writer makes of a film with `rows` and `columns`, with or without field 0A.
+/// Its weights are in place, and so they are in the offsets below.
 pub fn file_length(rows: usize, columns: usize, steps: bool) -> usize {
     let required = 25 + 2 * rows * columns + thickness_count(rows, columns);
     required + if steps { 3 + STEPS_LENGTH } else { 0 }
@@ -97,12 +99,27 @@ pub(crate) struct Opening {
     pub rows: usize,
     pub columns: usize,
     pub ceiling: u32,
+    /// None where field 03 is empty.
     pub weights: Vec<u16>,
+    /// Where the tag after field 03 lies.
+    pub end: usize,
 }
 
-/// Where the tag after field 03 lies.
+/// Where the tag after field 03 lies in a file that carries its weights.
 pub(crate) fn after_weights(cells: usize) -> usize {
     WEIGHTS_AT + 2 * cells
+}
+
+/// Where the tag after field 03 lies in this file (document 02, W5). The two length bytes of field 03 tell
+/// whether it has weights: 0 means none, anything else is held to two bytes a cell. Bytes beyond the end
+/// count as 0, since such a file is cut short either way.
+pub(crate) fn weights_end(bytes: &[u8], cells: usize) -> usize {
+    let above_0 = |at: usize| bytes.get(at).is_some_and(|&byte| byte > 0);
+    if above_0(WEIGHTS_AT - 2) || above_0(WEIGHTS_AT - 1) {
+        after_weights(cells)
+    } else {
+        WEIGHTS_AT
+    }
 }
 
 /// Reads fields 01, 02 and 03, each: header, tag, length, presence of the body, values.
@@ -114,7 +131,8 @@ pub(crate) fn read_opening(bytes: &[u8]) -> Result<Opening, Refusal> {
     let ceiling = be_u32(body(bytes, 5, 0x02, 4)?);
     check_ceiling(ceiling.into())?;
 
-    let weights: Vec<u16> = body(bytes, 12, 0x03, 2 * rows * columns)?
+    let end = weights_end(bytes, rows * columns);
+    let weights: Vec<u16> = body(bytes, 12, 0x03, end - WEIGHTS_AT)?
         .chunks(2)
         .map(|pair| u16::from_be_bytes([pair[0], pair[1]]))
         .collect();
@@ -124,36 +142,46 @@ pub(crate) fn read_opening(bytes: &[u8]) -> Result<Opening, Refusal> {
         columns,
         ceiling,
         weights,
+        end,
     })
 }
 
-/// Reads a film file into numbers of its own. The tests come field by field: header, tag, length,
-/// presence of the body, values; then the optional field in its own order, and bytes after it; then
-/// dominance.
+/// Reads a film file into numbers of its own. Its fields come first, and the bytes after them; then
+/// dominance, or the search for weights where the file carries none.
 pub fn read(bytes: &[u8]) -> Result<Film, Refusal> {
+    let mut film = read_fields(bytes)?;
+    film.weights = held(form(&film).system(), film.weights)?;
+    Ok(film)
+}
+
+/// The numbers that a film file's fields have, its weights empty where field 03 is. The tests come field
+/// by field: header, tag, length, presence of the body, values; then the optional field in its own
+/// order, and bytes after it. Every field lies behind the one before it, so that a file without weights
+/// has its later numbers 2 bytes a cell earlier.
+pub fn read_fields(bytes: &[u8]) -> Result<Film, Refusal> {
     let Opening {
         rows,
         columns,
         ceiling,
         weights,
+        end,
     } = read_opening(bytes)?;
 
-    let cells = rows * columns;
     let count = thickness_count(rows, columns);
-    let thickness = body(bytes, after_weights(cells), 0x04, count)?.to_vec();
-    check_thickness(&thickness, cells)?;
+    let thickness = body(bytes, end, 0x04, count)?.to_vec();
+    check_thickness(&thickness, end + 3)?;
 
-    let wedge_header = wedge_offset(rows, columns) - 3;
+    let wedge_header = end + 3 + count;
     let wedge = be_u32(body(bytes, wedge_header, 0x05, 4)?) as i32;
-    check_wedge(wedge, rows, columns)?;
+    check_wedge(wedge, wedge_header + 3)?;
 
     let permitted = [Optional {
         tag: STEPS_TAG,
         length: STEPS_LENGTH,
         check: &|body, at| check_steps(steps_in(body), at),
     }];
-    let [steps] = optional_bodies(bytes, file_length(rows, columns, false), permitted)?;
-    let film = Film {
+    let [steps] = optional_bodies(bytes, wedge_header + 7, permitted)?;
+    Ok(Film {
         rows,
         columns,
         ceiling,
@@ -161,9 +189,7 @@ pub fn read(bytes: &[u8]) -> Result<Film, Refusal> {
         thickness,
         wedge,
         steps: steps.map(steps_in),
-    };
-    check_dominance(form(&film).system(), &film.weights)?;
-    Ok(film)
+    })
 }
 
 /// The reading call: fills the two lent buffers and hands back rows, columns, ceiling, wedge and
@@ -295,8 +321,8 @@ pub fn check_numbers(
     }
     check_ceiling(given.ceiling.into())?;
     check_weights(given.weights)?;
-    check_thickness(given.thickness, cells)?;
-    check_wedge(given.wedge, rows, columns)?;
+    check_thickness(given.thickness, thickness_offset(cells))?;
+    check_wedge(given.wedge, wedge_offset(rows, columns))?;
     if let Some(steps) = given.steps {
         check_steps(steps, steps_offset(rows, columns))?;
     }
@@ -323,8 +349,8 @@ pub fn write_into(given: Numbers, out: &mut [u8]) -> Result<(), Refusal> {
     Ok(())
 }
 
-/// The bytes of a film file, with no test at all: test vectors need refused files too. A number must
-/// have room in its field.
+/// The bytes of a film file, with no test at all: test vectors need refused files too, and files without
+/// weights. A number must have room in its field.
 pub fn write(film: &Film) -> Vec<u8> {
     let mut bytes = write_opening((film.rows, film.columns), film.ceiling, &film.weights);
     put_field(&mut bytes, 0x04, &film.thickness);
@@ -376,20 +402,20 @@ pub(crate) fn check_weights(weights: &[u16]) -> Result<(), Refusal> {
     }
 }
 
-/// Corners of the ring are read, so they are tested like the others.
-fn check_thickness(thickness: &[u8], cells: usize) -> Result<(), Refusal> {
+/// Corners of the ring are read, so they are tested like the others. `at` is the offset of the first.
+fn check_thickness(thickness: &[u8], at: usize) -> Result<(), Refusal> {
     match thickness
         .iter()
         .position(|h| !(1..=LARGEST_THICKNESS).contains(h))
     {
-        Some(number) => refuse(7, thickness_offset(cells) + number),
+        Some(number) => refuse(7, at + number),
         None => Ok(()),
     }
 }
 
-fn check_wedge(wedge: i32, rows: usize, columns: usize) -> Result<(), Refusal> {
+fn check_wedge(wedge: i32, at: usize) -> Result<(), Refusal> {
     if !(-LARGEST_WEDGE..=LARGEST_WEDGE).contains(&wedge) {
-        return refuse(8, wedge_offset(rows, columns));
+        return refuse(8, at);
     }
     Ok(())
 }

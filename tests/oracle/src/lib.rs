@@ -20,6 +20,7 @@ pub mod run;
 pub mod samples;
 mod step_vectors;
 pub mod vectors;
+mod weight_vectors;
 pub mod weights;
 
 /// A whole number, wide enough for every sum and product of document 01.

@@ -1,7 +1,7 @@
 //! The report on a file's bytes (document 01, "The report"), of either kind of film (document 02, W1).
 
 use crate::coefficient_film::{self, convert, CoefficientFilm};
-use crate::film::{self, after_weights};
+use crate::film::{self, weights_end};
 use crate::relax::slack;
 use crate::run::{run, Answer, Ordering, Outcome};
 use crate::Refusal;
@@ -29,12 +29,13 @@ pub fn read(bytes: &[u8]) -> Result<CoefficientFilm, Refusal> {
     }
 }
 
-/// The byte after field 03, by the shape that stands in the file: None where the file ends before
-/// it. Fields 01 to 03 need not be good ones, since both readers refuse them alike.
+/// The byte after field 03, by the shape and by the length of that field that stand in the file: None
+/// where the file ends before it. Fields 01 to 03 need not be good ones, since both readers refuse them
+/// alike.
 fn tag_after_weights(bytes: &[u8]) -> Option<u8> {
     let (rows, columns) = (*bytes.get(3)?, *bytes.get(4)?);
     let cells = usize::from(rows) * usize::from(columns);
-    bytes.get(after_weights(cells)).copied()
+    bytes.get(weights_end(bytes, cells)).copied()
 }
 
 /// The run that a report shows, and the field it leaves.

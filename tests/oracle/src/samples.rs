@@ -1,36 +1,47 @@
 //! The sample films. Gauged ones are a thickness law on a grid, coefficient films a law of faces on a
-//! mesh, or a gauged film converted; the makers add the least weights.
+//! mesh, or a gauged film converted; the makers add the least weights, or leave field 03 empty.
 
 use crate::coefficient_film::{self, convert, CoefficientFilm};
 use crate::coefficients::{form, Coefficients};
 use crate::film::{write, Film, Steps};
-use crate::weights::{least_weights, least_weights_of};
+use crate::weights::least_weights_of;
 use crate::Whole;
 
 /// Largest ceiling of a film file.
 pub const HIGHEST: u32 = 16_777_216;
 
-/// A film from a thickness law over row 0 to R + 1 and column 0 to C + 1, with the least weights.
-pub fn made(
+/// A film from a thickness law over row 0 to R + 1 and column 0 to C + 1, without weights.
+pub fn unweighted(
     (rows, columns): (usize, usize),
     ceiling: u32,
     wedge: i32,
     law: impl Fn(usize, usize) -> u8,
 ) -> Film {
-    let thickness: Vec<u8> = (0..rows + 2)
+    let thickness = (0..rows + 2)
         .flat_map(|r| (0..columns + 2).map(move |c| (r, c)))
         .map(|(r, c)| law(r, c))
         .collect();
-    let weights = least_weights(rows, columns, &thickness).expect("weights above 65,535");
     Film {
         rows,
         columns,
         ceiling,
-        weights,
+        weights: Vec::new(),
         thickness,
         wedge,
         steps: None,
     }
+}
+
+/// The same with the least weights.
+pub fn made(
+    shape: (usize, usize),
+    ceiling: u32,
+    wedge: i32,
+    law: impl Fn(usize, usize) -> u8,
+) -> Film {
+    let mut film = unweighted(shape, ceiling, wedge, law);
+    film.weights = least_weights_of(form(&film)).expect("weights above 65,535");
+    film
 }
 
 /// The same film with the steps `along` and `across`, and the least weights of the matrix that it then
@@ -51,9 +62,9 @@ pub struct Faces {
     pub source: Whole,
 }
 
-/// A coefficient film from a law over row 1 to R and column 1 to C, with the least weights. Faces
-/// that lead out of the grid are left out: what flows through them is a loss.
-pub fn meshed(
+/// A coefficient film from a law over row 1 to R and column 1 to C, without weights. Faces that lead out
+/// of the grid are left out: what flows through them is a loss.
+pub fn unweighted_mesh(
     (rows, columns): (usize, usize),
     ceiling: u32,
     law: impl Fn(usize, usize) -> Faces,
@@ -84,9 +95,20 @@ pub fn meshed(
     }
     CoefficientFilm {
         ceiling,
-        weights: least_weights_of(coefficients.clone()).expect("weights above 65,535"),
+        weights: Vec::new(),
         coefficients,
     }
+}
+
+/// The same with the least weights.
+pub fn meshed(
+    shape: (usize, usize),
+    ceiling: u32,
+    law: impl Fn(usize, usize) -> Faces,
+) -> CoefficientFilm {
+    let mut film = unweighted_mesh(shape, ceiling, law);
+    film.weights = least_weights_of(film.coefficients.clone()).expect("weights above 65,535");
+    film
 }
 
 /// A coefficient film without links: every cell has its own quotient, which is the pressure given for it.
@@ -135,6 +157,44 @@ pub fn flat_top() -> Film {
     made((8, 10), 1_000, 10_000, |r, c| (56 - 3 * c - r) as u8)
 }
 
+/// A pad as it comes from the gauge, without weights: a slider that falls by 3 a column from 115 at the
+/// inlet to 16 at the outlet, and on it up to 6 of roughness.
+pub fn rough_pad() -> Film {
+    let rough = roughness(34 * 34);
+    unweighted((32, 32), 1_000_000, 100_000_000, |r, c| {
+        115 - 3 * c as u8 + rough[34 * r + c]
+    })
+}
+
+/// Numbers from 0 to 6: what is left by 7 of 75, 75², 75³ and so on, each taken modulo 65,537.
+fn roughness(count: usize) -> Vec<u8> {
+    let mut power = 1_u32;
+    (0..count)
+        .map(|_| {
+            power = 75 * power % 65_537;
+            (power % 7) as u8
+        })
+        .collect()
+}
+
+/// A thick cell inside thin ones, without weights. Hardly anything flows out through the thin cells, so
+/// that weights would have to pass 65,535: the film is refused with 16. One step less in the middle, and
+/// it has weights.
+pub fn no_weights() -> Film {
+    thick_middle(101)
+}
+
+/// Three rows of three, thickness 1 but in the middle.
+pub(crate) fn thick_middle(thickness: u8) -> Film {
+    unweighted((3, 3), HIGHEST, 1_000, |r, c| {
+        if (r, c) == (2, 2) {
+            thickness
+        } else {
+            1
+        }
+    })
+}
+
 /// A plane slider: thickness falls by 3 a column from 90 at the inlet to 15 at the outlet, the
 /// same in every row. The film converges along the columns, so a positive wedge gives negative
 /// sources and pressure builds everywhere.
@@ -180,14 +240,17 @@ pub fn refused() -> Film {
 /// courses, so pressure climbs round after round towards several millions, and the budget of the
 /// report ends first.
 pub fn stopped() -> Film {
-    made((32, 32), HIGHEST, 100_000_000, |r, c| {
-        let thin = r < 2 || c < 2 || r > 31 || c > 31;
-        if thin {
-            1
-        } else {
-            14 - (6 * (c as u8 - 2)) / 29
-        }
-    })
+    made((32, 32), HIGHEST, 100_000_000, stopped_thickness)
+}
+
+/// The law of that film.
+pub(crate) fn stopped_thickness(r: usize, c: usize) -> u8 {
+    let thin = r < 2 || c < 2 || r > 31 || c > 31;
+    if thin {
+        1
+    } else {
+        14 - (6 * (c as u8 - 2)) / 29
+    }
 }
 
 // Widths of the mesh's columns and heights of its rows, the ring's among them, which has none.
@@ -255,7 +318,13 @@ pub fn refused_coefficients() -> CoefficientFilm {
 
 /// Every sample with its name, in the order of the page that describes them.
 pub fn samples() -> Vec<(&'static str, Vec<u8>)> {
-    [equal_step_samples(), step_samples(), peak_samples()].concat()
+    [
+        equal_step_samples(),
+        step_samples(),
+        peak_samples(),
+        weight_samples(),
+    ]
+    .concat()
 }
 
 /// The samples without field 0A.
@@ -288,4 +357,12 @@ pub(crate) fn step_samples() -> Vec<(&'static str, Vec<u8>)> {
 /// The sample of the peak among equals.
 pub(crate) fn peak_samples() -> Vec<(&'static str, Vec<u8>)> {
     vec![("flat-top", write(&flat_top()))]
+}
+
+/// The samples without weights.
+pub(crate) fn weight_samples() -> Vec<(&'static str, Vec<u8>)> {
+    vec![
+        ("rough-pad", write(&rough_pad())),
+        ("no-weights", write(&no_weights())),
+    ]
 }

@@ -8,6 +8,7 @@ use crate::peak_vectors;
 use crate::report::reported_run;
 use crate::samples::{equal_step_samples, film_f, journal, made, HIGHEST};
 use crate::step_vectors;
+use crate::weight_vectors;
 
 /// A name and the bytes of a file, accepted or not.
 pub type Vector = (String, Vec<u8>);
@@ -38,6 +39,7 @@ pub fn all() -> Vec<Vector> {
     step_vectors::add(&mut list);
     coefficient_vectors::add_beside_steps(&mut list);
     peak_vectors::add(&mut list);
+    weight_vectors::add(&mut list);
     list.0
 }
 
@@ -504,7 +506,7 @@ fn overs(list: &mut List) {
 
 /// A small pad made to be slow: thickness `pad` inside two thin courses of 1, and on the left a
 /// ring of `left`, which gives the first column its source.
-struct SlowPad {
+pub(crate) struct SlowPad {
     shape: (usize, usize),
     pad: u8,
     left: u8,
@@ -521,7 +523,7 @@ impl SlowPad {
         }
     }
 
-    fn film(&self, wedge: i32) -> Film {
+    pub(crate) fn film(&self, wedge: i32) -> Film {
         made(self.shape, HIGHEST, wedge, |r, c| self.law(r, c))
     }
 
@@ -533,7 +535,7 @@ impl SlowPad {
     }
 }
 
-fn slow_pad(shape: (usize, usize), pad: u8, left: u8) -> SlowPad {
+pub(crate) fn slow_pad(shape: (usize, usize), pad: u8, left: u8) -> SlowPad {
     SlowPad { shape, pad, left }
 }
 

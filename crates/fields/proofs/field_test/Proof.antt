@@ -1,19 +1,20 @@
 -- `fields::field_test` meets its contract: each arm tests the field of the byte that stands there, and where that is not the tag that should,
 -- it is refused before its length or its values count (`tries-found`).
 use mathlib.Core.Logic.{⊎-elim}
+use native.Mathlib.Nat.{le-trans}
 use native.Mathlib.Omega.{arith}
 use denote.Ref.{now}
 use Rattle.fields.specs.declared.Walked.{Walked}
 use Rattle.fields.specs.Tags.{fieldFor, Tries}
-use Rattle.fields.proofs.Tags.{longs-tried, unknown-tried, tries-found}
+use Rattle.fields.proofs.Tags.{carried-low, longs-tried, unknown-tried, tries-found}
 use borrow.Author.Needs.{needs}
 use Rattle.fields.proofs.field_test.Statement.{statement}
 use Rattle.fields.proofs.field_test.Tie as tie
 
 -- from the field of the byte found to that of the tag
 found : (c : tie.After-byte-at) {w : Walked} → let a = c .before .before .args in
-    Tries (fieldFor (c .byte-at .result) (a .n) (a .t)) (a .tag) (now (a .file)) (a .at) w
-    → Tries (fieldFor (a .tag) (a .n) (a .t)) (a .tag) (now (a .file)) (a .at) w
+    Tries (fieldFor (now (a .file)) (c .byte-at .result) (a .n) (a .t)) (a .tag) (now (a .file)) (a .at) w
+    → Tries (fieldFor (now (a .file)) (a .tag) (a .n) (a .t)) (a .tag) (now (a .file)) (a .at) w
 found c T =
     let a = c .before .before .args in
     tries-found (now (a .file)) (a .at) (a .tag) (a .n) (a .t) (rw (c .byte-at .ensures) at T)
@@ -27,8 +28,13 @@ shape-field-requires c κs = search needs
 ceiling-field-requires : tie.Need-ceiling-field-requires
 ceiling-field-requires c κs = search needs
 
+carried-requires : tie.Need-carried-requires
+carried-requires c κs = search needs
+
 weights-field-requires : tie.Need-weights-field-requires
-weights-field-requires c κs = search needs
+weights-field-requires c κs =
+    let s = c .before .before .before .before in
+    (s .pre .at-low, rw (c .carried .ensures) (le-trans (carried-low (now (s .args .file)) (s .args .n)) (s .pre .cells-few)))
 
 thicknesses-field-requires : tie.Need-thicknesses-field-requires
 thicknesses-field-requires c κs = search needs
@@ -61,7 +67,9 @@ returns-2 : tie.Need-returns-2
 returns-2 c = found (c .before .before) (rw (c .before .match .keys2) (c .ceiling-field .ensures))
 
 returns-3 : tie.Need-returns-3
-returns-3 c = found (c .before .before) (rw (c .before .match .keys3) (c .weights-field .ensures))
+returns-3 c =
+    let k = c .before .before in
+    found (k .before) (rw (k .match .keys3) (rw (c .before .carried .ensures) at (c .weights-field .ensures)))
 
 returns-4 : tie.Need-returns-4
 returns-4 c = found (c .before .before) (rw (c .before .match .keys4) (c .thicknesses-field .ensures))
@@ -103,6 +111,7 @@ field-test-spec =
     byte-at-requires
     shape-field-requires
     ceiling-field-requires
+    carried-requires
     weights-field-requires
     thicknesses-field-requires
     wedge-field-requires

@@ -1,7 +1,11 @@
-//! Writes the sample films into a directory, and says on standard output what their reports show.
+//! Writes the sample films into a directory, and says on standard output what their reports show, and what
+//! the search took where the program finds the weights.
 
+use film_oracle::coefficients::form;
+use film_oracle::film::read_fields;
 use film_oracle::report::report;
 use film_oracle::samples::samples;
+use film_oracle::weights::{search, SEARCH_BUDGET};
 use std::path::Path;
 use std::{env, fs, io, process};
 
@@ -17,6 +21,7 @@ fn main() -> io::Result<()> {
         println!("{name}.film: {} bytes", bytes.len());
         let text = String::from_utf8(report(&bytes)).expect("a report is plain text");
         show_ends(&text);
+        show_search(&bytes);
     }
     Ok(())
 }
@@ -28,5 +33,21 @@ fn show_ends(text: &str) {
         if number < 2 || number + 1 == lines.len() {
             println!("    {line}");
         }
+    }
+}
+
+/// The search of a gauged film without weights: its answer, visits and raises, and the greatest weight that
+/// it came to.
+fn show_search(bytes: &[u8]) {
+    let Ok(film) = read_fields(bytes) else {
+        return;
+    };
+    if film.weights.is_empty() {
+        let (outcome, found) = search(form(&film).system(), SEARCH_BUDGET);
+        let greatest = found.iter().max().expect("a film has cells");
+        println!(
+            "    search: {:?}, {} visits, {} raises, greatest weight {greatest}",
+            outcome.answer, outcome.visits, outcome.raises
+        );
     }
 }
