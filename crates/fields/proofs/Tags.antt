@@ -10,13 +10,14 @@ use lib.ListN.{length}
 use Rattle.model.specs.Refusals.{Check, pass, checkOf, _orElse_, failIf}
 use Rattle.model.specs.Bytes.{byteAt, wordAt}
 use Rattle.model.specs.Fields.{Field, body, behind, fieldAt}
-use Rattle.model.specs.File.{shapeField, ceilingField, weightsField, thicknessesField, wedgeField, stepsField, weightless, carried}
+use Rattle.model.specs.File.{shapeField, ceilingField, weightsField, thicknessesField, wedgeField, stepsField, carried}
 use Rattle.model.specs.CoefficientFile.{diagonalsField, rightsField, upsField, sourcesField}
 use Rattle.model.specs.declared.Refusal.{Refusal}
 use Rattle.model.specs.declared.Tested.{Tested}
 use Rattle.model.specs.declared.Tested.the-variants.{Fine, Refused}
 use Rattle.model.proofs.Checks.{orElse-parts, failIf-pass}
 use Rattle.model.proofs.Fields.{header}
+use Rattle.model.proofs.Opening.{carried-low}
 use Rattle.refusals.proofs.Chain.{orElse-given, goes-on, refuses}
 use Rattle.fields.specs.declared.Walked.{Walked}
 use Rattle.fields.specs.Tags.{plainField, unknown, fieldFor, Tries}
@@ -24,13 +25,6 @@ use Rattle.fields.specs.Tags.{plainField, unknown, fieldFor, Tries}
 either-low : (b : Bool) (x y : Field) {k : ℕ} → x .size ≤ k → y .size ≤ k → cond b x y .size ≤ k
 either-low true x y h l = h
 either-low false x y h l = l
-
-pub carried-low : (l : List ℕ) (n : ℕ) → carried l n ≤ n
-carried-low l n = go (weightless l)
-  where
-    go : (none : Bool) → cond none 0 n ≤ n
-    go true = omega arith
-    go false = omega arith
 
 pub size-low : (bytes : List ℕ) (tag n t : ℕ) → n ≤ 65025 → t ≤ 66049 → fieldFor bytes tag n t .size ≤ 520200
 size-low bytes tag n t h l =

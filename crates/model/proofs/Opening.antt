@@ -1,6 +1,6 @@
 -- The fields that film files of every kind begin with, shape, ceiling and weights; and numbers that stand in a field's body.
 use mathlib.Core.Path.{_≡_, refl, sym, ap, _∙_}
-use mathlib.Core.Bool.{false}
+use mathlib.Core.Bool.{Bool, true, false, cond}
 use mathlib.Core.List.{List, [], _∷_, _++_}
 use Prim.Native.Nat.{ℕ, _+_, _*_, _≤_, _<_}
 use native.Mathlib.Omega.{arith}
@@ -13,7 +13,7 @@ use Rattle.model.specs.Refusals.{pass, fail, _orElse_, failIf}
 use Rattle.model.specs.Checks.{outside, shapeCheck}
 use Rattle.model.specs.Bytes.{byteAt, wordAt, longAt, long, listed}
 use Rattle.model.specs.Fields.{Field, body, behind, fieldsEnd, fieldAt, walk, unexpectedAt, field}
-use Rattle.model.specs.File.{cells, shapeField, ceilingField, opening, rowsOffset, columnsOffset, ceilingOffset, weightsOffset, cellsIn, weightless, carriedIn, fieldsCheck, weightBytes, InPlace}
+use Rattle.model.specs.File.{cells, shapeField, ceilingField, opening, rowsOffset, columnsOffset, ceilingOffset, weightsOffset, cellsIn, weightless, carried, carriedIn, fieldsCheck, weightBytes, InPlace}
 use Rattle.model.proofs.Lists.{tabulate-is}
 use Rattle.model.proofs.Checks.{within, orElse-parts, failIf-pass}
 use Rattle.model.proofs.Codes.{Code, word-code, long-code, listed-length, listed-reads}
@@ -40,6 +40,17 @@ pub has-weights : (l : List ℕ) (n : ℕ) → fieldAt l (fieldsEnd (shapeField 
 has-weights l n e h =
     let size = header l (fieldsEnd (shapeField ∷ ceilingField ∷ []) 0) 3 (2 * n) e .size-is in
     ne-eqb (wordAt l (fieldsEnd (shapeField ∷ ceilingField ∷ []) 0 + 1)) 0 (λ z. omega (arith, size, z, h))
+
+-- a file has a weight for each of n cells, or none
+pub carried-low : (l : List ℕ) (n : ℕ) → carried l n ≤ n
+carried-low l n = go (weightless l)
+  where
+    go : (none : Bool) → cond none 0 n ≤ n
+    go true = omega arith
+    go false = omega arith
+
+pub carries-all : (l : List ℕ) → weightless l ≡ false → carriedIn l ≡ cellsIn l
+carries-all l c = ap (λ none. cond none 0 (cellsIn l)) c
 
 -- ---- what follows the three fields
 

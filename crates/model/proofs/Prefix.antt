@@ -3,7 +3,7 @@
 -- Two files that agree in as many bytes as the largest film has, and one more, are read alike: where the shape is refused, only the first
 -- bytes were looked at; where it is not, the fields of either kind end within those bytes, and the numbers are the same.
 use mathlib.Core.Path.{_≡_, refl, sym, ap, ap₂, _∙_}
-use mathlib.Core.Bool.{Bool, true, false, cond}
+use mathlib.Core.Bool.{cond}
 use mathlib.Core.List.{List, _++_}
 use Prim.Native.Nat.{ℕ, _+_, _*_, _≤_, _<_}
 use native.Mathlib.Nat.{mul-le-mul, mul-le-mul-left, mul-suc}
@@ -34,7 +34,7 @@ use Rattle.model.proofs.Checks.{orElse-parts, failFirst-same}
 use Rattle.model.proofs.Codes.{Code, word-code, long-code, signed-long-code, signed-quad-code}
 use Rattle.model.proofs.Fields.{Agree, Local, AllLocal, field-same, walk-same}
 use Rattle.model.proofs.Optional.{parts-same, present-end, present-local, append-local}
-use Rattle.model.proofs.Opening.{Shaped, shape-passes}
+use Rattle.model.proofs.Opening.{Shaped, shape-passes, carried-low}
 use Rattle.model.proofs.EitherFile.{shape-refused}
 
 -- ---- a film's fields look at their bodies alone
@@ -92,11 +92,6 @@ few-cells s = let count = mul-le-mul (s .rows-low) (s .columns-low) in omega ari
 
 gauged-near : {rows columns : ℕ} (w : ℕ) → w ≤ cells rows columns → Shaped rows columns → fieldsEnd (gauged w (ringed rows columns) ++ gaugedOptional) 0 < enough
 gauged-near w h s = let few = few-cells s in omega arith
-
--- a file has a weight for each cell, or none
-carried-low : (none : Bool) (n : ℕ) → cond none 0 n ≤ n
-carried-low true n = omega arith
-carried-low false n = omega arith
 
 -- ---- two files that agree so far
 
@@ -157,7 +152,7 @@ module _ (l m : List ℕ) (A : Agree enough l m) where
     w = carriedIn m
 
     few : w ≤ n
-    few = carried-low (weightless m) n
+    few = carried-low m n
 
     weights-same : tabulate (carriedIn l) (λ i. wordAt l (weightsOffset + 2 * i)) ≡ tabulate w (λ i. wordAt m (weightsOffset + 2 * i))
     weights-same = rw (carried-same) (list-same word-code 0 weightsOffset w (omega (arith, low, few)))

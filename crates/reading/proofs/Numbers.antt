@@ -1,88 +1,145 @@
--- The numbers that a file whose fields have passed holds, and what the reader gives of them.
-use mathlib.Core.Path.{_≡_, ap, _∙_, subst}
-use mathlib.Core.List.{List}
+-- The numbers that a file whose fields have passed holds, its weights, and what the reader gives of them.
+use mathlib.Core.Path.{_≡_, refl, sym, ap, _∙_, subst}
+use mathlib.Core.Bool.{true, false}
+use mathlib.Core.List.{List, []}
 use Prim.Native.Nat.{ℕ, _+_, _*_, _≤_}
 use native.Mathlib.Omega.{arith}
-use lib.IntN.{ℤ}
+use lib.IntN.{ℤ, pos}
 use lib.ListN.{length}
 use lib.Seq.{sets}
 use Rattle.model.specs.Lists.{tabulate}
 use Rattle.model.specs.declared.Head.{Head}
 use Rattle.model.specs.declared.Steps.{Steps}
-use Rattle.model.specs.Refusals.{pass, fail}
+use Rattle.model.specs.declared.Tested.{Tested}
+use Rattle.model.specs.Refusals.{Check, pass, fail, checkOf}
 use Rattle.model.specs.Gauge.{Gauge, factorsOf, Stepped}
-use Rattle.model.specs.Bytes.{byteAt, wordAt, longAt, signedOf}
-use Rattle.model.specs.Fields.{walk, partAt, present, fieldsIn}
-use Rattle.model.specs.File.{stepsField, gauged, gaugedOptional, weightsOffset, thicknessesOffset, wedgeOffset, endOffset, cellsIn, ringIn, stepsOf, gaugedParts, gaugeIn, gaugeDominance, fieldsCheck}
+use Rattle.model.specs.Coefficients.{formed}
+use Rattle.model.specs.Checks.{dominanceCheck}
+use Rattle.model.specs.Accepted.{Limited}
+use Rattle.model.specs.Weighing.{weightSearch, weightsFor, heldCheck}
+use Rattle.model.specs.Bytes.{wordAt}
+use Rattle.model.specs.Fields.{walk, present}
+use Rattle.model.specs.File.{gaugedOptional, weightsOffset, endOffset, cellsIn, ringIn, weightless, carriedIn, gaugedParts, gaugedIn, numbersIn, gaugeIn, gaugeDominance, fieldsCheck}
 use Rattle.model.specs.Result.{Answer, answered, refused}
-use Rattle.model.specs.FileCalls.{gaugeOf, headOf, LoadAnswer, film}
+use Rattle.model.specs.FileCalls.{gaugeOf, headOf, LoadAnswer, film, laidOver}
+use Rattle.model.proofs.Lists.{tabulate-length}
 use Rattle.model.proofs.Checks.{orElse-parts}
 use Rattle.model.proofs.Fields.{walk-passes, passes-end, end-above}
-use Rattle.model.proofs.File.{gauge-shape, steps-stepped}
-use Rattle.model.proofs.Opening.{Shaped}
+use Rattle.model.proofs.Weighing.{ones}
+use Rattle.model.proofs.Forming.{formed-limited}
+use Rattle.model.proofs.File.{NumbersPassed, gauge-shape, steps-stepped, numbers-pass}
+use Rattle.model.proofs.Opening.{Shaped, carries-all}
+use Rattle.model.proofs.Sides.{cells-low}
 use Rattle.text.proofs.Writes.{sets-front}
-use Rattle.reading.specs.Reading.{LoadsBy}
+use Rattle.forming.specs.Cell.{Ringed}
+use Rattle.forming.proofs.Cell.{ring-low}
+use Rattle.weighing.specs.Searches.{Searches}
+use Rattle.reading.specs.Reading.{Decoded, Weighs, LoadsBy}
 
 -- ---- the fields
 
 -- a file whose fields have passed has a shape within its limits, and all its numbers
 pub record Whole (l : List ℕ) : Type 0 where
-  pub shape : Shaped (gaugeIn l .rows) (gaugeIn l .columns)
-  pub long : endOffset (cellsIn l) (ringIn l) ≤ length l
-  pub steps : Stepped (factorsOf (gaugeIn l .steps))
+  pub shape : Shaped (numbersIn l .rows) (numbersIn l .columns)
+  pub long : endOffset (carriedIn l) (ringIn l) ≤ length l
+  pub steps : Stepped (factorsOf (numbersIn l .steps))
 
-pub fields-whole : (l : List ℕ) → fieldsCheck (fieldsIn (gauged (cellsIn l) (ringIn l)) gaugedOptional l) l ≡ pass → Whole l
+pub fields-whole : (l : List ℕ) → fieldsCheck (gaugedIn l) l ≡ pass → Whole l
 fields-whole l e =
-    let fields = fieldsIn (gauged (cellsIn l) (ringIn l)) gaugedOptional l in
-    let p = walk-passes fields l 0 (orElse-parts (walk fields l 0) _ e .0) in
-    let all = passes-end fields l 0 p (omega arith) in
+    let p = walk-passes (gaugedIn l) l 0 (orElse-parts (walk (gaugedIn l) l 0) _ e .0) in
+    let all = passes-end (gaugedIn l) l 0 p (omega arith) in
     record {
-      shape = gauge-shape (gaugeIn l) (p .1);
-      long = omega (arith, all, end-above (present gaugedOptional (gaugedParts l)) (endOffset (cellsIn l) (ringIn l)));
+      shape = gauge-shape (numbersIn l) (p .1);
+      long = omega (arith, all, end-above (present gaugedOptional (gaugedParts l)) (endOffset (carriedIn l) (ringIn l)));
       steps = steps-stepped l e;
     }
 
--- ---- the numbers
+-- ---- the weights
 
--- those that were decoded, with the thicknesses that stand in the file, are those in the file
-pub decoded : (bytes : List ℕ) {h : Head} {n t : ℕ} {w s : List ℕ} {z : ℤ} {k : Steps} → h ≡ headOf (gaugeIn bytes) → n ≡ h .rows * h .columns
-    → t ≡ (h .rows + 2) * (h .columns + 2) → w ≡ tabulate n (λ i. wordAt bytes (weightsOffset + 2 * i))
-    → s ≡ tabulate t (λ j. byteAt bytes (thicknessesOffset n + j))
-    → z ≡ signedOf (longAt bytes (wedgeOffset n t)) → k ≡ stepsOf (partAt stepsField bytes (endOffset n t)) → gaugeOf h w s z k ≡ gaugeIn bytes
-decoded bytes {h} {n} {t} eh en et ew es ez ek =
-    let cells-are : n ≡ cellsIn bytes = en ∙ ap (λ x. x .rows * x .columns) eh in
-    let ring-is : t ≡ ringIn bytes = et ∙ ap (λ x. (x .rows + 2) * (x .columns + 2)) eh in
-    let weights = ew ∙ ap (λ m. tabulate m (λ i. wordAt bytes (weightsOffset + 2 * i))) cells-are in
-    let thicknesses = es ∙ (λ k. tabulate (ring-is k) (λ j. byteAt bytes (thicknessesOffset (cells-are k) + j))) in
-    let wedge = ez ∙ (λ k. signedOf (longAt bytes (wedgeOffset (cells-are k) (ring-is k)))) in
-    let steps = ek ∙ (λ k. stepsOf (partAt stepsField bytes (endOffset (cells-are k) (ring-is k)))) in
-    λ k.
-    record {
-      rows = eh k .rows;
-      columns = eh k .columns;
-      ceiling = eh k .ceiling;
-      weights = weights k;
-      thicknesses = thicknesses k;
-      wedge = wedge k;
-      steps = steps k;
-    }
+module _ (l : List ℕ) {h : Head} {t : List ℕ} {s : Steps} (D : Decoded l h t s) where
+  -- a film with these numbers, and others for what the tests of its weights do not look at
+  with : (weights : List ℕ) (wedge : ℤ) → gaugeOf h weights t wedge s ≡ gaugeOf (headOf (numbersIn l)) weights (numbersIn l .thicknesses) wedge (numbersIn l .steps)
+  with weights wedge = λ k. gaugeOf (D .head-is k) weights (D .thicknesses-are k) wedge (D .steps-are k)
 
--- what the reader gives, from the numbers g that it decoded
-module _ (bytes weights thicknesses : List ℕ) {g : Gauge} (same : g ≡ gaugeIn bytes) where
-  from : {answer : Answer LoadAnswer} {weights′ thicknesses′ : List ℕ} → LoadsBy (gaugeDominance g) g weights thicknesses answer weights′ thicknesses′
-      → LoadsBy (gaugeDominance (gaugeIn bytes)) (gaugeIn bytes) weights thicknesses answer weights′ thicknesses′
-  from {answer} {weights′} {thicknesses′} = subst (λ (f : Gauge). LoadsBy (gaugeDominance f) f weights thicknesses answer weights′ thicknesses′) same
-
-  pub film-loaded : {weights′ thicknesses′ : List ℕ} → gaugeDominance g ≡ pass → length (g .weights) ≤ length weights
-      → length (g .thicknesses) ≤ length thicknesses → weights′ ≡ sets weights 0 (g .weights) → thicknesses′ ≡ sets thicknesses 0 (g .thicknesses)
-      → LoadsBy (gaugeDominance (gaugeIn bytes)) (gaugeIn bytes) weights thicknesses (answered (film (headOf g) (g .wedge) (g .steps))) weights′ thicknesses′
-  film-loaded e h l p q =
-      from (record {
-        answer-is = rw e;
-        weights-are = rw e (p ∙ sets-front weights (g .weights) h);
-        thicknesses-are = rw e (q ∙ sets-front thicknesses (g .thicknesses) l);
+  -- its shape, thicknesses and steps are as forming asks, ..
+  pub ringed : Ringed (h .rows) (h .columns) t
+  ringed =
+      let w = fields-whole l (D .fields) in
+      rw (D .head-is, D .thicknesses-are)
+      (record {
+        rows-some = w .shape .rows-some;
+        rows-low = w .shape .rows-low;
+        columns-some = w .shape .columns-some;
+        columns-low = w .shape .columns-low;
+        thicknesses-len = tabulate-length _ _;
       })
 
-  pub film-refused : {number place : ℕ} → gaugeDominance g ≡ fail number place
-      → LoadsBy (gaugeDominance (gaugeIn bytes)) (gaugeIn bytes) weights thicknesses (refused number place) weights thicknesses
-  film-refused e = from (record { answer-is = rw e; weights-are = rw e; thicknesses-are = rw e })
+  pub stepped : Stepped (factorsOf s)
+  stepped = rw (D .steps-are) (fields-whole l (D .fields) .steps)
+
+  -- .. as many weights and thicknesses as the buffers hold, ..
+  pub few-cells : {n : ℕ} → n ≡ h .rows * h .columns → n ≤ 1024
+  few-cells e = omega (arith, e, cells-low (h .rows) (h .columns) (ringed .rows-low) (ringed .columns-low))
+
+  pub few-thicknesses : length t ≤ 1156
+  few-thicknesses = omega (arith, ringed .thicknesses-len, ring-low (h .rows) (h .columns) (ringed .rows-low) (ringed .columns-low))
+
+  -- .. which stand in the file, if it has them, ..
+  pub cells-are : h .rows * h .columns ≡ cellsIn l
+  cells-are = ap (λ (x : Head). x .rows * x .columns) (D .head-is)
+
+  pub weights-long : {n : ℕ} → n ≡ h .rows * h .columns → weightless l ≡ false → weightsOffset + 2 * n ≤ length l
+  weights-long e c = omega (arith, e, cells-are, carries-all l c, fields-whole l (D .fields) .long)
+
+  -- .. and its coefficients are within their limits, without sources too
+  pub limited : (w : List ℕ) × Limited (formed (gaugeOf h w t (pos 0) s))
+  limited =
+      let w = ones (cellsIn l) in
+      let n = numbers-pass l (carriedIn l) w (walk-passes (gaugedIn l) l 0 (orElse-parts (walk (gaugedIn l) l 0) _ (D .fields) .0)) in
+      let g = gaugeOf (headOf (numbersIn l)) w (numbersIn l .thicknesses) (pos 0) (numbersIn l .steps) in
+      let passed : NumbersPassed g = record { shape = n .shape; ceiling = n .ceiling; thicknesses = n .thicknesses; wedge = refl; steps = n .steps } in
+      (w, subst (λ (x : Gauge). Limited (formed x)) (sym (with w (pos 0))) (formed-limited g passed (tabulate-length _ _)))
+
+  -- weights that are found: the search looks at neither weights nor wedge number
+  pub weighs-found : {r : Tested} {exit : List ℕ} → weightless l ≡ true → Searches (formed (gaugeOf h [] t (pos 0) s)) r exit → Weighs l r exit
+  unfolding weightSearch
+  weighs-found {r} {exit} c S =
+      let T = subst (λ (x : Gauge). Searches (formed x) r exit) (with [] (pos 0)) S in
+      record {
+        finds = T .finds ∙ ap (λ none. heldCheck none (formed (numbersIn l))) (sym c);
+        weights-are = λ p. T .weights-are p ∙ ap (λ none. weightsFor none (formed (numbersIn l))) (sym c);
+      }
+
+  -- weights that stand in the file
+  pub weighs-standing : {r : Tested} {exit : List ℕ} → weightless l ≡ false → exit ≡ tabulate (cellsIn l) (λ i. wordAt l (weightsOffset + 2 * i))
+      → ((wedge : ℤ) → checkOf r ≡ gaugeDominance (gaugeOf h exit t wedge s)) → Weighs l r exit
+  unfolding gaugeDominance dominanceCheck
+  weighs-standing {r} {exit} c e T =
+      let carries = carries-all l c in
+      let weights : exit ≡ numbersIn l .weights = e ∙ ap (λ (n : ℕ). tabulate n (λ i. wordAt l (weightsOffset + 2 * i))) (sym carries) in
+      let same : gaugeOf h exit t (numbersIn l .wedge) s ≡ numbersIn l = λ k. gaugeOf (D .head-is k) (weights k) (D .thicknesses-are k) (numbersIn l .wedge) (D .steps-are k) in
+      record {
+        finds = T (numbersIn l .wedge) ∙ ap (λ (g : Gauge). dominanceCheck (formed g)) same ∙ ap (λ none. heldCheck none (formed (numbersIn l))) (sym c);
+        weights-are = λ p. weights ∙ ap (λ none. weightsFor none (formed (numbersIn l))) (sym c);
+      }
+
+-- ---- what the reader gives, from what the weights gave
+
+module _ (l weights thicknesses : List ℕ) {r : Tested} {exit : List ℕ} (W : Weighs l r exit) where
+  abbrev found : Check
+  found = heldCheck (weightless l) (formed (numbersIn l))
+
+  pub film-loaded : {h : Head} {t : List ℕ} {s : Steps} {wedge : ℤ} {weights′ thicknesses′ : List ℕ} → Decoded l h t s → wedge ≡ numbersIn l .wedge → checkOf r ≡ pass
+      → length exit ≤ length weights → length t ≤ length thicknesses → weights′ ≡ sets weights 0 exit → thicknesses′ ≡ sets thicknesses 0 t
+      → LoadsBy found (gaugeIn l) weights thicknesses (answered (film h wedge s)) weights′ thicknesses′
+  film-loaded {t = t} D z e a b p q =
+      let passes : found ≡ pass = sym (W .finds) ∙ e in
+      let ws = W .weights-are e in
+      record {
+        answer-is = rw passes (λ k. answered (film (D .head-is k) (z k) (D .steps-are k)));
+        weights-are = rw passes (p ∙ sets-front weights exit a ∙ ap (λ (w : List ℕ). laidOver w weights) ws);
+        thicknesses-are = rw passes (q ∙ sets-front thicknesses t b ∙ ap (λ (w : List ℕ). laidOver w thicknesses) (D .thicknesses-are));
+      }
+
+  pub film-refused : {number place : ℕ} → checkOf r ≡ fail number place → LoadsBy found (gaugeIn l) weights thicknesses (refused number place) weights thicknesses
+  film-refused e = let f : found ≡ fail _ _ = sym (W .finds) ∙ e in record { answer-is = rw f; weights-are = rw f; thicknesses-are = rw f }

@@ -1,17 +1,19 @@
-// The numbers of a film file whose fields have passed their tests: 9 is tested, and then they are written into the lent buffers. Internal: the
-// reader calls `read_fields`; that of coefficient films takes head and weights from here.
+// The numbers of a film file whose fields have passed their tests: its weights are tested for 9, or found where the file has none, and then all are written into the
+// lent buffers. Internal: the reader calls `read_fields`; that of coefficient films takes head and weights from here.
 //
-// Proved: answer and lent buffers are those of crate `model`, by what the test of 9 finds (`LoadsBy`).
+// Proved: answer and lent buffers are those of crate `model`, by what the test of 9, or the search, finds (`LoadsBy`).
 ghost use mathlib.Core.Path.{_≡_};
 ghost use Prim.Native.Nat.{_+_, _*_, _≤_};
 ghost use lib.ListN.{length, take};
 ghost use Rattle.model.specs.Lists.{tabulate};
 ghost use Rattle.model.specs.Refusals.{pass};
 ghost use Rattle.model.specs.Bytes.{wordAt};
-ghost use Rattle.model.specs.Fields.{fieldsIn, partAt};
-ghost use Rattle.model.specs.File.{stepsField, gauged, gaugedOptional, weightsOffset, cellsIn, ringIn, stepsOf, gaugeIn, gaugeDominance, fieldsCheck};
+ghost use Rattle.model.specs.Fields.{partAt};
+ghost use Rattle.model.specs.Coefficients.{formed};
+ghost use Rattle.model.specs.Weighing.{heldCheck};
+ghost use Rattle.model.specs.File.{stepsField, weightsOffset, stepsOf, weightless, gaugedIn, numbersIn, gaugeIn, fieldsCheck};
 ghost use Rattle.model.specs.FileCalls.{headOf, loadAnswerOf};
-ghost use Rattle.reading.specs.Reading.{LoadsBy};
+ghost use Rattle.reading.specs.Reading.{Decoded, Weighs, LoadsBy};
 use model::Head;
 use model::Loaded;
 use model::Steps;
@@ -52,28 +54,72 @@ fn steps_in(file: &[u8], at: usize) -> Steps
     Steps::Absent
 }
 
-// Reads a file whose fields have passed their tests. Refusal 9 is still to be tested, and the lent buffers are written after it: until then
-// the weights are in a table of its own, and the thicknesses stay where they stand.
-pub fn read_fields(file: &[u8], weights: &mut [u16], thicknesses: &mut [u8]) -> Loaded
-    requires { ⌜ fieldsCheck (fieldsIn (gauged (cellsIn (now file)) (ringIn (now file))) gaugedOptional (now file)) (now file) ≡ pass ⌝ }
-    requires { ⌜ (length (now weights) ≡ 1024) × (length (now thicknesses) ≡ 1156) ⌝ }
-    ensures { λ r. ⌜ LoadsBy (gaugeDominance (gaugeIn (now (file .entry)))) (gaugeIn (now (file .entry))) (now (weights .entry)) (now (thicknesses .entry)) (loadAnswerOf r) (now (weights .exit)) (now (thicknesses .exit)) ⌝ }
+// The film's weights, into a table of as many: those that stand in the file, and whether 9 passes; or those that are found, and whether they are.
+fn weighed(
+    file: &[u8],
+    head: Head,
+    ring: &[u8],
+    steps: Steps,
+    weights: &mut [u16],
+) -> Tested
+    requires { ⌜ Decoded (now file) head (now ring) steps × (length (now weights) ≡ head .rows * head .columns) ⌝ }
+    ensures { λ r. ⌜ Weighs (now (file .entry)) r (now (weights .exit)) ⌝ }
 {
-    let head = head_in(file);
-    let n = shape::area(head.rows, head.columns);
-    let t = shape::ring(head.rows, head.columns);
-    let from = 15 + 2 * n + 3;
-    let end = from + t;
-    let mut words = [0u16; 1024];
-    weights_in(file, n, &mut words);
-    let steps = steps_in(file, end + 3 + 4);
-    let wedge = words::numbers::signed(words::numbers::long_at(file, end + 3));
-    match row_sums::dominance_test(head, &words[..n], &file[from..end], steps) {
+    if headers::weightless(file) {
+        return weighing::search_gauged(head, ring, steps, weights);
+    }
+    let n = weights.len();
+    weights_in(file, n, weights);
+    row_sums::dominance_test(head, &weights[..], ring, steps)
+}
+
+// A film whose thicknesses stand in the file, into buffers that have room, where its weights pass. Until then these are in a table lent for them.
+fn hand_over(
+    file: &[u8],
+    head: Head,
+    wedge: i32,
+    steps: Steps,
+    ring: &[u8],
+    words: &mut [u16],
+    weights: &mut [u16],
+    thicknesses: &mut [u8],
+) -> Loaded
+    requires { ⌜ Decoded (now file) head (now ring) steps × (wedge ≡ numbersIn (now file) .wedge) × (length (now words) ≡ head .rows * head .columns) ⌝ }
+    requires { ⌜ (length (now weights) ≡ 1024) × (length (now thicknesses) ≡ 1156) ⌝ }
+    ensures { λ r. ⌜ LoadsBy (heldCheck (weightless (now (file .entry))) (formed (numbersIn (now (file .entry))))) (gaugeIn (now (file .entry))) (now (weights .entry)) (now (thicknesses .entry)) (loadAnswerOf r) (now (weights .exit)) (now (thicknesses .exit)) ⌝ }
+{
+    match weighed(file, head, ring, steps, words) {
         Tested::Fine => {
-            words::put::put_words(weights, &words[..n]);
-            text::put_bytes(thicknesses, 0, &file[from..end]);
+            words::put::put_words(weights, &words[..]);
+            text::put_bytes(thicknesses, 0, ring);
             Loaded::Film(head, wedge, steps)
         }
         Tested::Refused(r) => Loaded::Refused(r),
     }
+}
+
+// Reads a file whose fields have passed their tests. The lent buffers are written once its weights have passed too.
+pub fn read_fields(file: &[u8], weights: &mut [u16], thicknesses: &mut [u8]) -> Loaded
+    requires { ⌜ fieldsCheck (gaugedIn (now file)) (now file) ≡ pass ⌝ }
+    requires { ⌜ (length (now weights) ≡ 1024) × (length (now thicknesses) ≡ 1156) ⌝ }
+    ensures { λ r. ⌜ LoadsBy (heldCheck (weightless (now (file .entry))) (formed (numbersIn (now (file .entry))))) (gaugeIn (now (file .entry))) (now (weights .entry)) (now (thicknesses .entry)) (loadAnswerOf r) (now (weights .exit)) (now (thicknesses .exit)) ⌝ }
+{
+    let head = head_in(file);
+    let n = shape::area(head.rows, head.columns);
+    let t = shape::ring(head.rows, head.columns);
+    let from = 15 + 2 * headers::carried(file, n) + 3;
+    let end = from + t;
+    let steps = steps_in(file, end + 3 + 4);
+    let wedge = words::numbers::signed(words::numbers::long_at(file, end + 3));
+    let mut words = [0u16; 1024];
+    hand_over(
+        file,
+        head,
+        wedge,
+        steps,
+        &file[from..end],
+        &mut words[..n],
+        weights,
+        thicknesses,
+    )
 }

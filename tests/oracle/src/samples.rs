@@ -166,7 +166,7 @@ pub fn rough_pad() -> Film {
     })
 }
 
-/// Numbers from 0 to 6: what is left by 7 of 75, 75², 75³ and so on, each taken modulo 65,537.
+/// Numbers from 0 to 6: 75, 75², 75³ and so on, each modulo 65,537 and then modulo 7.
 fn roughness(count: usize) -> Vec<u8> {
     let mut power = 1_u32;
     (0..count)

@@ -4,9 +4,10 @@ use mathlib.Core.Logic.{⊎-elim}
 use native.Mathlib.Nat.{le-trans}
 use native.Mathlib.Omega.{arith}
 use denote.Ref.{now}
+use Rattle.model.proofs.Opening.{carried-low}
 use Rattle.fields.specs.declared.Walked.{Walked}
 use Rattle.fields.specs.Tags.{fieldFor, Tries}
-use Rattle.fields.proofs.Tags.{carried-low, longs-tried, unknown-tried, tries-found}
+use Rattle.fields.proofs.Tags.{longs-tried, unknown-tried, tries-found}
 use borrow.Author.Needs.{needs}
 use Rattle.fields.proofs.field_test.Statement.{statement}
 use Rattle.fields.proofs.field_test.Tie as tie
