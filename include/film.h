@@ -3,7 +3,7 @@
  * A film has R rows and C columns of cells, N = R * C, and T = (R + 2) * (C + 2) thicknesses, the boundary ring included. Cells are
  * counted from 0, row by row; lines from 1 to R.
  *
- * A film file is of one of two kinds. Both begin with fields 01 (shape), 02 (ceiling) and 03 (weights, 2 bytes a cell).
+ * A film file is of one of two kinds. Both begin with fields 01 (shape), 02 (ceiling) and 03 (weights, 2 bytes a cell, or none).
  *
  *    a gauged film         goes on with 04 (thicknesses, a byte each) and 05 (wedge, 4 bytes), and may end with 0A (steps, a byte each):
  *                          25 + 2 * N + T bytes, and 5 more with 0A, at most 3,234
@@ -13,12 +13,18 @@
  * A field is its tag, a byte; the length of its body, 2 bytes; and the body. Numbers are big-endian, wedge and sources two's complement.
  * Each kind has a reader and a writer; film_convert makes a coefficient film's file of a gauged film; film_report takes either kind.
  *
+ * Field 03 may be empty, its length 0. Then the program finds the weights, where it reads the file: the least whole numbers whose weighted
+ * row sums are all at least 1, if none of them is above 65,535. To find them takes up to 4,000,000 relaxations, and reading so much longer.
+ * What is read is a film with weights, which does not keep that the field was empty. Such a file is 2 * N bytes shorter than said above, and
+ * all that stands behind field 03 is at an offset that is less by 2 * N, in refusals too. The writers put weights in place: a file of
+ * L bytes that was read without weights is written back with L + 2 * N, the bytes before field 03 and behind it the same.
+ *
  * Every call returns 0 if it answered, and then writes what its comment says and leaves *place as it was. Otherwise it returns the number of
- * a refusal, 1 to 15, writes the refusal's place to *place, and changes nothing else: no result, no field, no slice.
+ * a refusal, 1 to 17, writes the refusal's place to *place, and changes nothing else: no result, no field, no slice.
  *
  *    1 truncated           a file's header or body runs past its end; place: the file's length
  *    2 unexpected          a tag is not the next one, or bytes follow the last field; place: its offset
- *    3 wrong length        a body's length is wrong for its tag; place: the field's offset
+ *    3 wrong length        a body's length is wrong for its tag, in field 03 neither 2 * N nor 0; place: the field's offset
  *    4 bad shape           rows or columns are not 1 to 32; place: its offset, 3 or 4 (in numeric calls 0)
  *    5 bad ceiling         the ceiling is not 1 to 16,777,216; place: its offset, 8 (in numeric calls 0)
  *    6 zero weight         a weight is 0; place: its offset, 15 + 2 * cell (in numeric calls the cell)
@@ -31,10 +37,15 @@
  *   13 out of grid         a line or cell is outside the grid; place: 0
  *   14 bad coefficient     a coefficient is outside its limits; place: the cell
  *   15 bad step            a grid step is not 1 to 4; place: its offset, 28 + 2 * N + T for along, one more for across
+ *   16 no weights          field 03 is empty, and no weights from 1 to 65,535 hold the film; place: the cell that would need more
+ *   17 weights not found   field 03 is empty, and 4,000,000 relaxations neither found weights nor met 16; place: 0
  *
- * Offsets are those in the film file. Calls that take a film's numbers and no file name the offsets that these would have in one: film_write,
- * film_form and film_convert in a gauged film's, film_write_coefficients in a coefficient film's. The numeric calls are those from
- * film_relax to film_run.
+ * 16 and 17 are the readers' alone: film_read, film_read_coefficients, film_report. To every other call no weights at all (0 elements) are a
+ * slice of the wrong length, 10.
+ *
+ * Offsets are those in the film file. Calls that take a film's numbers and no file name the offsets that these would have in one, with weights:
+ * film_write, film_form and film_convert in a gauged film's, film_write_coefficients in a coefficient film's. The numeric calls are those
+ * from film_relax to film_run.
  *
  * Where several would do, the call names the first that it tests for; each call lists its tests in their order.
  *
@@ -89,15 +100,17 @@ _Static_assert(sizeof(film_steps) == 3 * sizeof(uint32_t), "film_steps has the l
 
 /* Reads a gauged film's file. `weights` has 1,024 elements and `thicknesses` 1,156, whatever the film; those beyond the film's N and T keep
  * their contents. Writes the film's head, its wedge and its steps: given = 1 and both numbers, or given = 0 alone, where the film has no field
- * 0A.
+ * 0A. Where field 03 is empty, `weights` gets the N weights that are found.
  * Refusals: 10, then the fields in their order, each with 1 (header), 2, 3, 1 (body) and its values (4, 5, 6, 7, 8); behind field 05, if 0A
- * stands there, that field with 1, 3, 1 and 15; then 2 for what follows, then 9. A coefficient film is refused with 2 at its tag 06. */
+ * stands there, that field with 1, 3, 1 and 15; then 2 for what follows, then 9, or, where field 03 is empty, 16 or 17. A coefficient film is
+ * refused with 2 at its tag 06. */
 uint32_t film_read(const uint8_t *file, size_t file_len,
                    uint16_t *weights, size_t weights_len, uint8_t *thicknesses, size_t thicknesses_len,
                    film_head *head, int32_t *wedge, film_steps *steps, size_t *place);
 
 /* Writes a gauged film's file. `weights` has N elements, `thicknesses` T, and `out` exactly the file's length, 25 + 2 * N + T, and 5 more
- * where steps are given. Refusals: 4, 10, 5, 6, 7, 8, 15, 9. */
+ * where steps are given. It writes no file without weights: for `weights` without elements it is refused with 10.
+ * Refusals: 4, 10, 5, 6, 7, 8, 15, 9. */
 uint32_t film_write(const film_head *head,
                     const uint16_t *weights, size_t weights_len, const uint8_t *thicknesses, size_t thicknesses_len,
                     int32_t wedge, const film_steps *steps, uint8_t *out, size_t out_len, size_t *place);
@@ -128,17 +141,17 @@ uint32_t film_form(const film_head *head,
  * be at least 1 (refusal 9), is the slack with weights for pressures and source 0. */
 
 /* Reads a coefficient film's file. Each of the five buffers has 1,024 elements, whatever the film; those beyond the film's N keep their
- * contents. Writes the film's head.
+ * contents. Writes the film's head. Where field 03 is empty, `weights` gets the N weights that are found.
  * Refusals: 10, then the fields in their order, each with 1 (header), 2, 3, 1 (body) and its values (4, 5, 6; none for 06 to 09), then 2 for
- * what follows, then 14, then 9. A gauged film is refused with 2 at its tag 04. */
+ * what follows, then 14, then 9, or, where field 03 is empty, 16 or 17. A gauged film is refused with 2 at its tag 04. */
 uint32_t film_read_coefficients(const uint8_t *file, size_t file_len,
                                 uint16_t *weights, size_t weights_len, uint32_t *diagonals, size_t diagonals_len,
                                 uint32_t *rights, size_t rights_len, uint32_t *ups, size_t ups_len,
                                 int64_t *sources, size_t sources_len,
                                 film_head *head, size_t *place);
 
-/* Writes a coefficient film's file. The five slices have N elements, and `out` exactly the file's length, 27 + 22 * N.
- * Refusals: 4, 10, 5, 6, 14, 9. */
+/* Writes a coefficient film's file. The five slices have N elements, and `out` exactly the file's length, 27 + 22 * N. It writes no file
+ * without weights: for `weights` without elements it is refused with 10. Refusals: 4, 10, 5, 6, 14, 9. */
 uint32_t film_write_coefficients(const film_head *head,
                                  const uint16_t *weights, size_t weights_len, const uint32_t *diagonals, size_t diagonals_len,
                                  const uint32_t *rights, size_t rights_len, const uint32_t *ups, size_t ups_len,
@@ -211,8 +224,9 @@ uint32_t film_run(const film_head *head,
                   uint32_t result[4], size_t *cell, size_t *place);
 
 /* Writes the report of a film file at the start of `out` and its length to *length; `out` has at least 33,288 elements, and those beyond the
- * report keep their contents. The file is read as film_read_coefficients does where the tag after field 03 is 06, else as film_read does. One
- * that is refused has a report too, which says so. Refusal: 10. */
+ * report keep their contents. The file is read as film_read_coefficients does where the tag after field 03 is 06, else as film_read does. Where
+ * field 03 is empty, that tag is at 15, and weights are found before the report's run, which has its own 4,000,000 relaxations. A file that
+ * is refused has a report too, which says so. Refusal: 10. */
 uint32_t film_report(const uint8_t *file, size_t file_len, uint8_t *out, size_t out_len, size_t *length, size_t *place);
 
 #ifdef __cplusplus

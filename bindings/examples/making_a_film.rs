@@ -13,11 +13,10 @@ use std::{env, fs};
 /// pressure is the ambient one.
 const ROWS: usize = 3;
 const COLUMNS: usize = 5;
-const WIDTH: usize = COLUMNS + 2;
 
 /// Gauged thicknesses in micrometres. The film narrows towards rising columns, where the moving
 /// surface goes, and widens again behind the last of them, where the pad's edge is relieved.
-const TABLE: [[f64; WIDTH]; ROWS + 2] = [
+const TABLE: [[f64; COLUMNS + 2]; ROWS + 2] = [
     [60.2, 51.3, 42.6, 33.8, 27.2, 25.1, 35.0],
     [60.0, 51.0, 42.2, 33.4, 26.7, 24.8, 34.6],
     [59.8, 50.8, 42.0, 33.2, 26.5, 24.5, 34.4],
@@ -62,14 +61,13 @@ fn path() -> PathBuf {
 
 fn slider() -> Result<Film, Box<dyn Error>> {
     let thicknesses = thicknesses()?;
-    let weights = least_weights(&thicknesses).ok_or("a weight would pass 65,535")?;
     let head = Head {
         rows: ROWS as u32,
         columns: COLUMNS as u32,
         ceiling: CEILING,
     };
-    // No steps: the grid is equal both ways.
-    Ok(Film::from_parts(head, weights, thicknesses, wedge(), None)?)
+    // Weights are found. No steps: the grid is equal both ways.
+    Ok(Film::from_thicknesses(head, &thicknesses, wedge(), None)?)
 }
 
 /// The table in whole steps, by rows, the ring included.
@@ -93,43 +91,6 @@ fn steps(thickness: f64) -> Result<u8, String> {
 fn wedge() -> i32 {
     let real = 24.0 * VISCOSITY * SPEED * GRID_STEP / (THICKNESS_STEP.powi(2) * PRESSURE_STEP);
     real.round() as i32
-}
-
-/// The least whole weights whose weighted row sums are all at least 1, by cell index; none where a
-/// weight would pass 65,535, the largest of a film file.
-///
-/// Each weight is raised to what its cell needs, round and round until none rises. On the way none
-/// passes that of any other choice, so these are the least.
-fn least_weights(thicknesses: &[u8]) -> Option<Vec<u16>> {
-    // With the ring, whose weights stay 0, every cell has four neighbours.
-    let mut weights = vec![0; thicknesses.len()];
-    let mut rising = true;
-    while rising {
-        rising = false;
-        for place in cells() {
-            let needed = needed_weight(thicknesses, &weights, place)?;
-            rising |= needed > weights[place];
-            weights[place] = needed;
-        }
-    }
-    Some(cells().map(|place| weights[place]).collect())
-}
-
-/// The least weight with diagonal × weight − the sum of link × neighbour's weight at least 1.
-fn needed_weight(thicknesses: &[u8], weights: &[u16], place: usize) -> Option<u16> {
-    let (mut diagonal, mut pull) = (0, 0);
-    for neighbour in [place - WIDTH, place - 1, place + 1, place + WIDTH] {
-        let sum = u64::from(thicknesses[place]) + u64::from(thicknesses[neighbour]);
-        let link = sum.pow(3);
-        diagonal += link;
-        pull += link * u64::from(weights[neighbour]);
-    }
-    u16::try_from((1 + pull).div_ceil(diagonal)).ok()
-}
-
-/// Where the cells stand in the table, by index.
-fn cells() -> impl Iterator<Item = usize> {
-    (1..=ROWS).flat_map(|row| (1..=COLUMNS).map(move |column| row * WIDTH + column))
 }
 
 /// The least field in units: peak and lift.

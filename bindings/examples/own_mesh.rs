@@ -4,7 +4,7 @@
 //! The file goes to the path that is given, or else to `mesh.film` in the folder for temporary
 //! files.
 
-use film::{report, CoefficientFilm, Coefficients, Head, Order, Outcome};
+use film::{report, CoefficientFilm, Coefficients, Head, Order, Outcome, Refusal};
 use std::error::Error;
 use std::path::PathBuf;
 use std::{env, fs};
@@ -40,15 +40,14 @@ fn main() -> Result<(), Box<dyn Error>> {
     show_field(&CoefficientFilm::read(&fs::read(&path)?)?)
 }
 
-fn slider() -> Result<CoefficientFilm, Box<dyn Error>> {
-    let coefficients = coefficients();
-    let weights = least_weights(&coefficients).ok_or("a weight would pass 65,535")?;
+/// The film of the mesh, with weights that are found.
+fn slider() -> Result<CoefficientFilm, Refusal> {
     let head = Head {
         rows: ROWS as u32,
         columns: COLUMNS as u32,
         ceiling: CEILING,
     };
-    Ok(CoefficientFilm::from_parts(head, weights, coefficients)?)
+    CoefficientFilm::from_coefficients(head, &coefficients())
 }
 
 /// Reynolds' equation over each cell: through its four faces, each with a link of h³ · length /
@@ -108,40 +107,6 @@ fn edge(column: usize) -> f64 {
 
 fn thickness(from_inlet: f64) -> f64 {
     INLET + (OUTLET - INLET) * from_inlet / edge(COLUMNS)
-}
-
-/// The least whole weights whose weighted row sums are all at least 1, by cell index; none where a
-/// weight would pass 65,535. Each is raised to what its cell needs, round and round until none
-/// rises.
-fn least_weights(mesh: &Coefficients) -> Option<Vec<u16>> {
-    let mut weights = vec![0; mesh.diagonals.len()];
-    let mut rising = true;
-    while rising {
-        rising = false;
-        for cell in 0..weights.len() {
-            let needed = needed_weight(mesh, &weights, cell)?;
-            rising |= needed > weights[cell];
-            weights[cell] = needed;
-        }
-    }
-    Some(weights)
-}
-
-/// The least weight with diagonal × weight − the sum of link × neighbour's weight at least 1. A link
-/// is kept by the lower of its two cells; those that lead out of the grid are 0.
-fn needed_weight(mesh: &Coefficients, weights: &[u16], cell: usize) -> Option<u16> {
-    let mut pull = 0;
-    for (links, step) in [(&mesh.rights, 1), (&mesh.ups, COLUMNS)] {
-        if let Some(&weight) = weights.get(cell + step) {
-            pull += u64::from(links[cell]) * u64::from(weight);
-        }
-        if let Some(before) = cell.checked_sub(step) {
-            pull += u64::from(links[before]) * u64::from(weights[before]);
-        }
-    }
-    // A diagonal of 0, of links that round to 0, is left for the film to refuse.
-    let diagonal = u64::from(mesh.diagonals[cell].max(1));
-    u16::try_from((1 + pull).div_ceil(diagonal)).ok()
 }
 
 /// The least field in kPa, a row of cells in a line.

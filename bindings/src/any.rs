@@ -38,12 +38,17 @@ impl AnyFilm {
     }
 }
 
-/// Whether the tag after field 03 is 06. Where it stands follows from the shape's two bytes, tested
-/// or not: what is wrong up to there both readers refuse alike.
+/// Whether the tag after field 03 is 06. Where it stands follows from the shape's two bytes, and from
+/// the length of field 03, which is 0 where the file has no weights; tested or not: what is wrong up
+/// to there both readers refuse alike.
 fn has_coefficients(file: &[u8]) -> bool {
-    let Some(&[rows, columns]) = file.get(3..5) else {
+    let (Some(&[rows, columns]), Some(length)) = (file.get(3..5), file.get(13..15)) else {
         return false;
     };
-    let behind_weights = 15 + 2 * usize::from(rows) * usize::from(columns);
-    file.get(behind_weights) == Some(&0x06)
+    let weights = if length == [0, 0] {
+        0
+    } else {
+        2 * usize::from(rows) * usize::from(columns)
+    };
+    file.get(15 + weights) == Some(&0x06)
 }

@@ -3,7 +3,7 @@
 use crate::answers::{Order, Outcome, Proposed, Relaxed};
 use crate::raw::{self, Head, Problem, Ran};
 use crate::refusal::{tested, Refusal};
-use crate::Field;
+use crate::{unweighted, Field};
 
 /// Cells of the largest grid, 32 × 32: the readers want buffers for as many, whatever the film.
 pub(crate) const MOST_CELLS: usize = 1_024;
@@ -54,6 +54,10 @@ impl Coefficients {
 /// Making films, and writing them.
 impl CoefficientFilm {
     /// Reads a coefficient film's file. One of a gauged film is refused with 2 at its tag 04.
+    ///
+    /// Where field 03 is empty the film gets the least weights that hold it. To find them may take up
+    /// to 4,000,000 relaxations, some 20 ms. If none up to 65,535 hold it, the file is refused with
+    /// 16, and with 17 if that did not show by then.
     pub fn read(file: &[u8]) -> Result<CoefficientFilm, Refusal> {
         let mut weights = vec![0; MOST_CELLS];
         let mut coefficients = Coefficients::room(MOST_CELLS);
@@ -73,7 +77,20 @@ impl CoefficientFilm {
         Ok(CoefficientFilm::accepted(head, weights, coefficients))
     }
 
-    /// Makes a film from its numbers: a weight for each cell by index, and its coefficients.
+    /// Makes a film from its coefficients, and finds its weights.
+    ///
+    /// The film is read from a file without weights, so it is refused as [`CoefficientFilm::read`]
+    /// refuses that file: with 16 or 17 where it gets none, and with 3 where a list is too long or too
+    /// short.
+    pub fn from_coefficients(
+        head: Head,
+        coefficients: &Coefficients,
+    ) -> Result<CoefficientFilm, Refusal> {
+        CoefficientFilm::read(&unweighted::meshed(head, coefficients))
+    }
+
+    /// Makes a film from its coefficients and weights of the caller's own, one for each cell by index:
+    /// for films whose weights the library does not find.
     pub fn from_parts(
         head: Head,
         weights: Vec<u16>,
@@ -99,7 +116,7 @@ impl CoefficientFilm {
     }
 
     /// The film's file. Reading it gives the same film again, and a film that was read from a file
-    /// writes that file's own bytes.
+    /// writes that file's own bytes; where it had no weights, those that were found are in place.
     pub fn write(&self) -> Result<Vec<u8>, Refusal> {
         let mut file = vec![0; file_length(self.cells())];
         let mut place = 0;

@@ -4,7 +4,7 @@ use crate::answers::{Order, Outcome, Proposed, Relaxed};
 use crate::coefficients::{area, file_length, CoefficientFilm, Coefficients, MOST_CELLS};
 use crate::raw::{self, Formed, Gauge, Head};
 use crate::refusal::{tested, Refusal};
-use crate::Field;
+use crate::{unweighted, Field};
 
 /// A gauged film that was accepted: the numbers of its film file, and the coefficients that they
 /// form.
@@ -74,6 +74,10 @@ fn form(gauge: Gauge) -> Result<Coefficients, Refusal> {
 /// Making films, and writing them.
 impl Film {
     /// Reads a gauged film's file. One of a coefficient film is refused with 2 at its tag 06.
+    ///
+    /// Where field 03 is empty the film gets the least weights that hold it. To find them may take up
+    /// to 4,000,000 relaxations, some 20 ms. If none up to 65,535 hold it, the file is refused with
+    /// 16, and with 17 if that did not show by then.
     pub fn read(file: &[u8]) -> Result<Film, Refusal> {
         let (mut weights, mut thicknesses) = (vec![0; MOST_CELLS], vec![0; 1_156]);
         let (mut head, mut wedge, mut place) = (Head::default(), 0, 0);
@@ -93,9 +97,24 @@ impl Film {
         Film::from_parts(head, weights, thicknesses, wedge, steps.into())
     }
 
-    /// Makes a film from its numbers: a weight for each cell by index, and thicknesses for rows 0
-    /// to `rows` + 1 and in each of them columns 0 to `columns` + 1, the boundary ring included.
-    /// Without steps the grid is equal both ways.
+    /// Makes a film from its numbers, and finds its weights: thicknesses are for rows 0 to `rows` + 1
+    /// and in each of them columns 0 to `columns` + 1, the boundary ring included. Without steps the
+    /// grid is equal both ways.
+    ///
+    /// The film is read from a file without weights, so it is refused as [`Film::read`] refuses that
+    /// file: with 16 or 17 where it gets none, and with 3 where there are too many thicknesses or too
+    /// few.
+    pub fn from_thicknesses(
+        head: Head,
+        thicknesses: &[u8],
+        wedge: i32,
+        steps: Option<Steps>,
+    ) -> Result<Film, Refusal> {
+        Film::read(&unweighted::gauged(head, thicknesses, wedge, steps))
+    }
+
+    /// Makes a film from the same numbers and weights of the caller's own, one for each cell by index:
+    /// for films whose weights the library does not find.
     pub fn from_parts(
         head: Head,
         weights: Vec<u16>,
@@ -119,7 +138,7 @@ impl Film {
     }
 
     /// The film file. Reading it gives the same film again, and a film that was read from a file
-    /// writes that file's own bytes.
+    /// writes that file's own bytes; where it had no weights, those that were found are in place.
     pub fn write(&self) -> Result<Vec<u8>, Refusal> {
         // Five headers of 3 bytes, shape, ceiling and wedge, and the two bodies; one header more with
         // two steps.

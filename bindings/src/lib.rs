@@ -13,8 +13,8 @@
 //!
 //! // Film F: one row of two cells inside a ring of boundary thicknesses.
 //! let head = Head { rows: 1, columns: 2, ceiling: 100 };
-//! let thicknesses = vec![1, 1, 1, 1, 3, 2, 1, 1, 1, 1, 1, 1];
-//! let film = Film::from_parts(head, vec![1, 1], thicknesses, 100, None)?;
+//! let thicknesses = [1, 1, 1, 1, 3, 2, 1, 1, 1, 1, 1, 1];
+//! let film = Film::from_thicknesses(head, &thicknesses, 100, None)?;
 //! let mut field = Field::zero(&film);
 //! let outcome = film.run(&mut field, 1_000, Order::Forward, false)?;
 //! assert!(matches!(outcome, Outcome::Done(_)));
@@ -34,6 +34,7 @@ mod gauged;
 pub mod raw;
 mod refusal;
 mod report;
+mod unweighted;
 
 pub use answers::{Counts, Order, Outcome, Proposed, Relaxed};
 pub use any::AnyFilm;

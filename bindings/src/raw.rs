@@ -86,8 +86,9 @@ pub struct Ran {
     pub place: usize,
 }
 
-/// Reads a gauged film's file into `weights`, 1,024 of them, and `thicknesses`, 1,156. Of `steps` it
-/// writes `given` alone where the film has none.
+/// Reads a gauged film's file into `weights`, 1,024 of them, and `thicknesses`, 1,156. Where the file
+/// has no weights, those that the library finds are written. Of `steps` it writes `given` alone where
+/// the film has none.
 #[inline]
 pub fn read(
     file: &[u8],
@@ -164,7 +165,8 @@ pub fn form(gauge: Gauge, formed: Formed, place: &mut usize) -> u32 {
     }
 }
 
-/// Reads a coefficient film's file into the five buffers.
+/// Reads a coefficient film's file into the five buffers. Where the file has no weights, those that
+/// the library finds are written.
 #[inline]
 pub fn read_coefficients(
     file: &[u8],

@@ -6,10 +6,10 @@ use std::fmt;
 /// A call was refused: one fault, by its number, and its place. Nothing has changed.
 #[derive(Clone, Copy, Debug, PartialEq, Eq, Hash)]
 pub struct Refusal {
-    /// The fault's number, 1 to 15, as in the table of the README.
+    /// The fault's number, 1 to 17, as in the table of the README.
     pub number: u32,
     /// The file's length (1), an offset in the film file (2 to 8, 15; numbers that never were in a
-    /// file get the offset that they would have), a cell index (9, 12, 14), or 0 (10, 11, 13).
+    /// file get the offset that they would have), a cell index (9, 12, 14, 16), or 0 (10, 11, 13, 17).
     pub place: usize,
 }
 
@@ -32,6 +32,8 @@ impl Refusal {
             13 => "OutOfGrid",
             14 => "BadCoefficient",
             15 => "BadStep",
+            16 => "NoWeights",
+            17 => "WeightsNotFound",
             _ => "Refused",
         }
     }
@@ -54,6 +56,8 @@ impl Refusal {
             13 => "the line or cell is outside the grid",
             14 => "a coefficient is outside its limits",
             15 => "a grid step is outside 1 to 4",
+            16 => "no weights from 1 to 65,535 hold the film",
+            17 => "weights were not found in 4,000,000 relaxations",
             _ => "the call was refused",
         }
     }
@@ -66,8 +70,8 @@ impl fmt::Display for Refusal {
         match self.number {
             1 => write!(f, ", after {place} bytes"),
             2..=8 | 15 => write!(f, ", at byte {place} of the film file"),
-            9 | 12 | 14 => write!(f, ", at cell {place}"),
-            10 | 11 | 13 => Ok(()),
+            9 | 12 | 14 | 16 => write!(f, ", at cell {place}"),
+            10 | 11 | 13 | 17 => Ok(()),
             _ => write!(f, ", at {place}"),
         }
     }

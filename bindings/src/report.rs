@@ -7,7 +7,8 @@ use crate::refusal::{tested, Refusal};
 const LONGEST: usize = 33_288;
 
 /// The report of any file, of either kind of film, as text: one run from the zero field, forward,
-/// without proposals, with a budget of 4,000,000 relaxations.
+/// without proposals, with a budget of 4,000,000 relaxations. Where the file has no weights, the search
+/// for them comes before it, with a budget of its own.
 ///
 /// A file that is refused has a report too, the line `REFUSED` number place. So the call itself is
 /// never refused; the result is there because the library's call has one.

@@ -8,26 +8,25 @@ use lib.Dec.{eqb}
 use lib.IntN.{ℤ}
 use lib.ListN.{length}
 use Rattle.model.specs.Refusals.{Check, pass, fail, _orElse_, failIf}
-use Rattle.model.specs.File.{cellsIn, fieldsCheck}
+use Rattle.model.specs.File.{fieldsCheck}
 use Rattle.model.specs.Result.{Answer, refused}
-use Rattle.model.specs.CoefficientFile.{coefficientFields, filmIn, coefficientFileCheck}
+use Rattle.model.specs.CoefficientFile.{coefficientFieldsIn, filmIn, coefficientFileCheck}
 use Rattle.model.specs.CoefficientCalls.{buffersFit, coefficientLoadCheck, LoadsFilm, LoadsCoefficients}
 use Rattle.model.specs.declared.Head.{Head}
 use Rattle.model.proofs.Checks.{and-parts, orElse-assoc, orElse-parts, failIf-pass}
-use Rattle.coefficient_tests.specs.Tests.{matrixCheck}
-use Rattle.coefficient_reading.specs.Reading.{Buffers}
+use Rattle.coefficient_reading.specs.Reading.{Buffers, restCheck}
 
 module _ (bytes weights diagonals rights ups : List ℕ) (sources : List ℤ) where
-  -- the tests that come before 14 and 9: the lent buffers, and the file's fields
+  -- the tests that come before 14, 9, 16 and 17: the lent buffers, and the file's fields
   abbrev pub opening : Check
-  opening = failIf (not (buffersFit weights diagonals rights ups sources)) 10 0 orElse fieldsCheck (coefficientFields (cellsIn bytes)) bytes
+  opening = failIf (not (buffersFit weights diagonals rights ups sources)) 10 0 orElse fieldsCheck (coefficientFieldsIn bytes) bytes
 
-  load-parts : coefficientLoadCheck bytes weights diagonals rights ups sources ≡ (opening orElse matrixCheck (filmIn bytes))
+  load-parts : coefficientLoadCheck bytes weights diagonals rights ups sources ≡ (opening orElse restCheck bytes)
   unfolding coefficientFileCheck
   load-parts = sym (orElse-assoc (failIf (not (buffersFit weights diagonals rights ups sources)) 10 0) _ _)
 
   -- what it says that they have passed
-  pub opening-passes : opening ≡ pass → (fieldsCheck (coefficientFields (cellsIn bytes)) bytes ≡ pass) × Buffers weights diagonals rights ups sources
+  pub opening-passes : opening ≡ pass → (fieldsCheck (coefficientFieldsIn bytes) bytes ≡ pass) × Buffers weights diagonals rights ups sources
   opening-passes e =
       let a = orElse-parts (failIf (not (buffersFit weights diagonals rights ups sources)) 10 0) _ e in
       let s = and-parts _ (eqb (length sources) 1024) (not-false _ (failIf-pass _ 10 0 (a .0))) in
@@ -44,12 +43,12 @@ module _ (bytes weights diagonals rights ups : List ℕ) (sources : List ℤ) wh
     loads-by e = subst (λ c. LoadsFilm c (filmIn bytes) weights diagonals rights ups sources answer weights′ diagonals′ rights′ ups′ sources′) (sym e)
 
     pub load-opened : opening ≡ pass
-        → LoadsFilm (matrixCheck (filmIn bytes)) (filmIn bytes) weights diagonals rights ups sources answer weights′ diagonals′ rights′ ups′ sources′
+        → LoadsFilm (restCheck bytes) (filmIn bytes) weights diagonals rights ups sources answer weights′ diagonals′ rights′ ups′ sources′
         → LoadsCoefficients bytes weights diagonals rights ups sources answer weights′ diagonals′ rights′ ups′ sources′
-    load-opened e = loads-by (load-parts ∙ ap (λ x. x orElse matrixCheck (filmIn bytes)) e)
+    load-opened e = loads-by (load-parts ∙ ap (λ x. x orElse restCheck bytes) e)
 
   pub load-refused : {number place : ℕ} → opening ≡ fail number place
       → LoadsCoefficients bytes weights diagonals rights ups sources (refused number place) weights diagonals rights ups sources
   load-refused e =
-      loads-by (load-parts ∙ ap (λ x. x orElse matrixCheck (filmIn bytes)) e)
+      loads-by (load-parts ∙ ap (λ x. x orElse restCheck bytes) e)
       (record { answer-is = refl; weights-are = refl; diagonals-are = refl; rights-are = refl; ups-are = refl; sources-are = refl })

@@ -7,9 +7,9 @@ ghost use mathlib.Core.Path.{_≡_};
 ghost use Rattle.model.specs.Refusals.{checkOf};
 ghost use Rattle.model.specs.Film.{filmOf};
 ghost use Rattle.model.specs.Result.{Gives};
-ghost use Rattle.model.specs.File.{cellsIn, fieldsCheck};
+ghost use Rattle.model.specs.File.{fieldsCheck};
 ghost use Rattle.model.specs.FileCalls.{saveAnswerOf};
-ghost use Rattle.model.specs.CoefficientFile.{coefficientFields};
+ghost use Rattle.model.specs.CoefficientFile.{coefficientFieldsIn};
 ghost use Rattle.model.specs.CoefficientCalls.{coefficientsAnswerOf, LoadsCoefficients, coefficientSaveCall};
 use fault::Fault;
 use model::Head;
@@ -42,7 +42,7 @@ pub fn write(
 // The tests of a file's fields, and that nothing follows them. How many numbers there should be is what the shape says that stands in the
 // file: its own test comes before theirs.
 fn fields_test(file: &[u8]) -> Tested
-    ensures { λ r. ⌜ checkOf r ≡ fieldsCheck (coefficientFields (cellsIn (now (file .entry)))) (now (file .entry)) ⌝ }
+    ensures { λ r. ⌜ checkOf r ≡ fieldsCheck (coefficientFieldsIn (now (file .entry))) (now (file .entry)) ⌝ }
 {
     let rows = words::numbers::byte_at(file, 3) as u32;
     let columns = words::numbers::byte_at(file, 4) as u32;

@@ -113,7 +113,7 @@ module _ (f : Film) (out : List ℕ) (R : Writable f out) where
   own = ownBytes (f .diagonals) (f .rights) (f .ups) (f .sources)
 
   -- the file's fields, each with its length
-  fields-are : opened ++ own ≡ bytesOf (coefficientFields (sizeOf f)) (coefficientBodies f)
+  fields-are : opened ++ own ≡ bytesOf (coefficientFields (sizeOf f) (sizeOf f)) (coefficientBodies f)
   fields-are =
       let f1 = field 1 2 (f .rows ∷ f .columns ∷ []) in
       let f2 = field 2 4 (long (f .ceiling)) in

@@ -6,8 +6,7 @@
 ghost use mathlib.Core.Path.{_≡_};
 ghost use Rattle.model.specs.Refusals.{checkOf};
 ghost use Rattle.model.specs.Result.{Gives};
-ghost use Rattle.model.specs.Fields.{fieldsIn};
-ghost use Rattle.model.specs.File.{gauged, gaugedOptional, cellsIn, ringIn, fieldsCheck};
+ghost use Rattle.model.specs.File.{gaugedIn, fieldsCheck};
 ghost use Rattle.model.specs.FileCalls.{gaugeOf, saveCall, saveAnswerOf, Loads, loadAnswerOf};
 use fault::Fault;
 use model::Head;
@@ -40,7 +39,7 @@ pub fn write(
 // The tests of a file's fields, and that nothing follows them. How many weights and thicknesses there should be is what the shape says that
 // stands in the file: its own test comes before theirs.
 fn fields_test(file: &[u8]) -> Tested
-    ensures { λ r. ⌜ checkOf r ≡ fieldsCheck (fieldsIn (gauged (cellsIn (now (file .entry))) (ringIn (now (file .entry)))) gaugedOptional (now (file .entry))) (now (file .entry)) ⌝ }
+    ensures { λ r. ⌜ checkOf r ≡ fieldsCheck (gaugedIn (now (file .entry))) (now (file .entry)) ⌝ }
 {
     let rows = words::numbers::byte_at(file, 3) as u32;
     let columns = words::numbers::byte_at(file, 4) as u32;

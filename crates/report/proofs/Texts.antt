@@ -9,7 +9,7 @@ use lib.Dec.{eqb}
 use lib.ListN.{length}
 use Rattle.model.specs.Result.{answered, refused, Gives}
 use Rattle.model.specs.Bytes.{byteAt}
-use Rattle.model.specs.File.{rowsOffset, columnsOffset, readFilm, Bytes}
+use Rattle.model.specs.File.{rowsOffset, columnsOffset, readFilm, Bytes, carried}
 use Rattle.model.specs.CoefficientFile.{readCoefficients}
 use Rattle.model.specs.EitherFile.{tagged06, formedBy}
 use Rattle.model.specs.Report.{reportBy, reportOf}
@@ -19,10 +19,10 @@ use Rattle.text.specs.Writes.{Fits, Writes}
 use Rattle.text.proofs.Writes.{sets-front}
 
 module _ (bytes : List ℕ) where
-  -- the tag, by the shape that stands in the file
-  pub tag-read : {tag n rows columns : ℕ} → rows ≡ byteAt bytes rowsOffset → columns ≡ byteAt bytes columnsOffset → n ≡ rows * columns
-      → tag ≡ byteAt bytes (15 + 2 * n) → eqb tag 6 ≡ tagged06 bytes
-  tag-read r c e t = ap (λ x. eqb x 6) (t ∙ ap (λ (m : ℕ). byteAt bytes (15 + 2 * m)) (e ∙ ap₂ _*_ r c))
+  -- the tag, by the shape that stands in the file, and by whether it has weights
+  pub tag-read : {tag n w rows columns : ℕ} → rows ≡ byteAt bytes rowsOffset → columns ≡ byteAt bytes columnsOffset → n ≡ rows * columns
+      → w ≡ carried bytes n → tag ≡ byteAt bytes (15 + 2 * w) → eqb tag 6 ≡ tagged06 bytes
+  tag-read r c e w t = ap (λ x. eqb x 6) (t ∙ ap (λ (m : ℕ). byteAt bytes (15 + 2 * m)) (w ∙ ap (carried bytes) (e ∙ ap₂ _*_ r c)))
 
   -- the report of the film that the reader so chosen reads
   chosen : (b : Bool) → tagged06 bytes ≡ b → reportOf bytes ≡ reportBy (cond b (readCoefficients bytes) (formedBy (readFilm bytes)))

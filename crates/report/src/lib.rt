@@ -20,14 +20,15 @@ const LONGEST: usize = 33288;
 // The first tag of a coefficient film's own fields.
 const DIAGONALS: u8 = 6;
 
-// Whether that tag stands behind the weights of as many cells as the shape in the file says. What fields 01 to 03 are refused for, both
+// Whether that tag stands behind the weights, as many as the shape in the file says, or none. What fields 01 to 03 are refused for, both
 // readers refuse alike: so nothing of them is tested here.
 fn tagged_06(file: &[u8]) -> bool
     ensures { λ r. ⌜ r ≡ tagged06 (now (file .entry)) ⌝ }
 {
     let rows = words::numbers::byte_at(file, 3) as u32;
     let columns = words::numbers::byte_at(file, 4) as u32;
-    words::numbers::byte_at(file, 15 + 2 * shape::area(rows, columns)) == DIAGONALS
+    let weights = headers::carried(file, shape::area(rows, columns));
+    words::numbers::byte_at(file, 15 + 2 * weights) == DIAGONALS
 }
 
 // The report of a file.
