@@ -13,11 +13,11 @@
  * A field is its tag, a byte; the length of its body, 2 bytes; and the body. Numbers are big-endian, wedge and sources two's complement.
  * Each kind has a reader and a writer; film_convert makes a coefficient film's file of a gauged film; film_report takes either kind.
  *
- * Field 03 may be empty, its length 0. Then the program finds the weights, where it reads the file: the least whole numbers whose weighted
- * row sums are all at least 1, if none of them is above 65,535. To find them takes up to 4,000,000 relaxations, and reading so much longer.
- * What is read is a film with weights, which does not keep that the field was empty. Such a file is 2 * N bytes shorter than said above, and
- * all that stands behind field 03 is at an offset that is less by 2 * N, in refusals too. The writers put weights in place: a file of
- * L bytes that was read without weights is written back with L + 2 * N, the bytes before field 03 and behind it the same.
+ * Field 03 may be empty, its length 0. Then the program finds the weights when it reads the file: the least whole numbers whose weighted row
+ * sums are all at least 1, if none of them is above 65,535. That takes up to 4,000,000 relaxations. What is read is a film with weights, and
+ * nothing keeps that the field was empty. Such a file is 2 * N bytes shorter than said above, and all that stands behind field 03 has an
+ * offset that is less by 2 * N, in refusals too. The writers put weights in place: a file of L bytes that was read without weights is
+ * written back with L + 2 * N, the bytes before field 03 and behind it the same.
  *
  * Every call returns 0 if it answered, and then writes what its comment says and leaves *place as it was. Otherwise it returns the number of
  * a refusal, 1 to 17, writes the refusal's place to *place, and changes nothing else: no result, no field, no slice.
@@ -40,8 +40,8 @@
  *   16 no weights          field 03 is empty, and no weights from 1 to 65,535 hold the film; place: the cell that would need more
  *   17 weights not found   field 03 is empty, and 4,000,000 relaxations neither found weights nor met 16; place: 0
  *
- * 16 and 17 are the readers' alone: film_read, film_read_coefficients, film_report. To every other call no weights at all (0 elements) are a
- * slice of the wrong length, 10.
+ * 16 and 17 are those of film_read and film_read_coefficients alone, and stand in reports. To calls that take weights, none at all (0
+ * elements) are a slice of the wrong length, 10.
  *
  * Offsets are those in the film file. Calls that take a film's numbers and no file name the offsets that these would have in one, with weights:
  * film_write, film_form and film_convert in a gauged film's, film_write_coefficients in a coefficient film's. The numeric calls are those

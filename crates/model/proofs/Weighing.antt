@@ -174,10 +174,10 @@ module _ (f : Film) (w : List ℕ) (L : Limited (weighted f w)) where
     parts i =
         elim (decLe (sizeOf f) i) [
           | yes o ↦
-            let x = List·getD-eq-default a 0 {n = i} (omega (arith, S .a-len)) in
-            let y = List·getD-eq-default b 0 {n = i} (omega (arith, S .b-len)) in
-            let z = List·getD-eq-default rest 0 {n = i} (omega (arith, tabulate-length (sizeOf f) (λ i. getD a i 0 - getD b i 0))) in
-            omega (arith, x, y, z)
+              let x = List·getD-eq-default a 0 {n = i} (omega (arith, S .a-len)) in
+              let y = List·getD-eq-default b 0 {n = i} (omega (arith, S .b-len)) in
+              let z = List·getD-eq-default rest 0 {n = i} (omega (arith, tabulate-length (sizeOf f) (λ i. getD a i 0 - getD b i 0))) in
+              omega (arith, x, y, z)
           | no o ↦ omega (arith, never-below i, rest-at i (omega arith))
         ]
 

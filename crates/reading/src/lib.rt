@@ -55,13 +55,7 @@ fn steps_in(file: &[u8], at: usize) -> Steps
 }
 
 // The film's weights, into a table of as many: those that stand in the file, and whether 9 passes; or those that are found, and whether they are.
-fn weighed(
-    file: &[u8],
-    head: Head,
-    ring: &[u8],
-    steps: Steps,
-    weights: &mut [u16],
-) -> Tested
+fn weighed(file: &[u8], head: Head, ring: &[u8], steps: Steps, weights: &mut [u16]) -> Tested
     requires { ⌜ Decoded (now file) head (now ring) steps × (length (now weights) ≡ head .rows * head .columns) ⌝ }
     ensures { λ r. ⌜ Weighs (now (file .entry)) r (now (weights .exit)) ⌝ }
 {

@@ -35,8 +35,7 @@ module _ (h : Head) (d r u : List ℕ) where
   pub weighing-limited : (sources : List ℤ) → sources ≡ replicate (h .rows * h .columns) (negsuc 0) → Searchable h d r u
       → (w : List ℕ) × Limited (filmOf (lidded h) w d r u sources)
   weighing-limited sources e S =
-      let s = S .1 .1 .sized in
-      (
+      let s = S .1 .1 .sized in (
         S .0,
         record {
           sized =

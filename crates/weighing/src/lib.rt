@@ -152,11 +152,5 @@ pub fn search_gauged(head: Head, thicknesses: &[u8], steps: Steps, weights: &mut
         &mut ups,
         &mut sources,
     );
-    search(
-        head,
-        &diagonals[..n],
-        &rights[..n],
-        &ups[..n],
-        weights,
-    )
+    search(head, &diagonals[..n], &rights[..n], &ups[..n], weights)
 }
