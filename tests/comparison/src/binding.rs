@@ -5,6 +5,7 @@ use crate::lent::Differences;
 use crate::numbers::{head, Problem, Sides};
 use crate::random::Random;
 use crate::trial::{Compared, Trial};
+use crate::unweighted::written_again;
 use film::{AnyFilm, Counts, Field, Head, Order, Outcome, Proposed, Relaxed};
 use film_oracle::coefficient_film::{self, convert, CoefficientFilm};
 use film_oracle::film::Film;
@@ -25,22 +26,65 @@ pub fn compare_file(trial: &mut Trial, file: &[u8]) -> Compared {
         coefficients.as_ref().ok().map(|film| film.write()),
         either.as_ref().ok().map(|film| film.write()),
     ];
+    let wanted = film_oracle::report::read(file).map_err(refusal);
+    let again = match &wanted {
+        Ok(film) => Ok(written_again(file, &film.weights)),
+        Err(refusal) => Err(*refusal),
+    };
     for written in written.into_iter().flatten() {
-        differences.same("written again", Ok(file.to_vec()), written);
+        differences.same("written again", again.clone(), written);
         trial.tally.add("package", "write");
     }
+    let told = either.map(|film| read_lists(film.as_coefficients()));
+    differences.same("AnyFilm::read", wanted.map(|film| lists(&film)), told);
     let wanted = film_oracle::film::read(file).map(|film| numbers(&film));
     let told = gauged.map(|film| read_numbers(&film));
     differences.same("Film::read", wanted.map_err(refusal), told);
     let wanted = coefficient_film::read(file).map(|film| lists(&film));
     let told = coefficients.map(|film| read_lists(&film));
     differences.same("CoefficientFilm::read", wanted.map_err(refusal), told);
-    let wanted = film_oracle::report::read(file).map(|film| lists(&film));
-    let told = either.map(|film| read_lists(film.as_coefficients()));
-    differences.same("AnyFilm::read", wanted.map_err(refusal), told);
     for _ in 0..3 {
         trial.tally.add("package", "read");
     }
+    trial.ended(differences)
+}
+
+/// A gauged film made without weights, which may be refused: it is that of its file.
+pub fn compare_made(trial: &mut Trial, film: &Film) -> Compared {
+    let mut differences = Differences::default();
+    let steps = film.steps.map(|steps| film::Steps {
+        along: steps.along,
+        across: steps.across,
+    });
+    let head = head(film.rows, film.columns, film.ceiling);
+    let told = film::Film::from_thicknesses(head, &film.thickness, film.wedge, steps);
+    let wanted = film_oracle::film::read(&film_oracle::film::write(film));
+    differences.same(
+        "from_thicknesses()",
+        wanted.map(|film| numbers(&film)).map_err(refusal),
+        told.map(|film| read_numbers(&film)),
+    );
+    trial.tally.add("package", "make");
+    trial.ended(differences)
+}
+
+/// The same of a coefficient film.
+pub fn compare_made_coefficients(trial: &mut Trial, problem: &Problem) -> Compared {
+    let mut differences = Differences::default();
+    let mesh = film::Coefficients {
+        diagonals: problem.diagonals.clone(),
+        rights: problem.rights.clone(),
+        ups: problem.ups.clone(),
+        sources: problem.sources.clone(),
+    };
+    let told = film::CoefficientFilm::from_coefficients(problem.head, &mesh);
+    let wanted = coefficient_film::read(&coefficient_film::write(&problem.film()));
+    differences.same(
+        "from_coefficients()",
+        wanted.map(|film| lists(&film)).map_err(refusal),
+        told.map(|film| read_lists(&film)),
+    );
+    trial.tally.add("package", "make");
     trial.ended(differences)
 }
 

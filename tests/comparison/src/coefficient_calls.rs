@@ -5,6 +5,7 @@ use crate::lent::{Differences, Lent};
 use crate::numbers::{head, Gauge, Problem, Sides};
 use crate::tally::{answer, Tally};
 use crate::trial::{refusals, with_gauge, UNSET_HEAD, UNSET_PLACE, UNSET_STEPS};
+use crate::unweighted::is_unweighted;
 use film::raw::{self, Formed};
 use film_oracle::calls::{self, Buffers};
 use film_oracle::coefficient_film::COEFFICIENT_BUFFER;
@@ -107,7 +108,12 @@ pub fn read(file: &[u8], lengths: [usize; 5], tally: &mut Tally, differences: &m
     differences.same("head", wanted_head, told);
     lent.compare(&buffers, differences);
     differences.lent("file", file, &lent_file);
-    tally.add("read_coefficients", answer(number, "accepted"));
+    let word = if is_unweighted(file) {
+        "weights found"
+    } else {
+        "accepted"
+    };
+    tally.add("read_coefficients", answer(number, word));
 }
 
 pub fn write(problem: Problem, length: usize, tally: &mut Tally, differences: &mut Differences) {

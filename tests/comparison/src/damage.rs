@@ -12,7 +12,7 @@ use film_oracle::film::{thickness_count, write, Film, Steps};
 /// The tag of the grid steps.
 const STEPS: u8 = 0x0a;
 
-/// A file from an accepted film's, with faults of every class of byte.
+/// A file from an accepted film's, which may have no weights, with faults of every class of byte.
 pub fn file(random: &mut Random, film: &Film) -> Vec<u8> {
     if random.chance(2) {
         return stray_bytes(random);
@@ -31,10 +31,28 @@ pub fn file(random: &mut Random, film: &Film) -> Vec<u8> {
         return bytes;
     }
     let mut bytes = write(&film);
+    if random.chance(10) {
+        other_weights(random, film.cells(), &mut bytes);
+        times = 0;
+    }
     for _ in 0..times {
         damage_bytes(random, &headers(&film), &mut bytes);
     }
     bytes
+}
+
+/// Weights taken out of a file that has them, or equal ones put into one that has none: both the length
+/// of field 03 and its body, or one of the two.
+fn other_weights(random: &mut Random, cells: usize, bytes: &mut Vec<u8>) {
+    let length = usize::from(u16::from_be_bytes([bytes[13], bytes[14]]));
+    let other = 2 * cells - length;
+    let which = random.below(3);
+    if which != 0 {
+        bytes.splice(15..15 + length, vec![1; other]);
+    }
+    if which != 1 {
+        bytes[13..15].copy_from_slice(&(other as u16).to_be_bytes());
+    }
 }
 
 /// Field 0A behind a file that has none, or what stands where it might: alone, cut, twice, too early,
@@ -94,8 +112,13 @@ pub fn coefficient_file(random: &mut Random, problem: &Problem) -> Vec<u8> {
         times -= 1;
     }
     let mut bytes = coefficient_film::write(&problem.film());
+    let missing = 2 * (problem.cells() - problem.weights.len());
     let mut headers = vec![0, 5, 12];
-    headers.extend(coefficient_film::headers(problem.cells()));
+    headers.extend(coefficient_film::headers(problem.cells()).map(|at| at - missing));
+    if random.chance(10) {
+        other_weights(random, problem.cells(), &mut bytes);
+        return bytes;
+    }
     if random.chance(15) {
         // No place of such a file is one for field 0A.
         add_steps(random, &headers, &mut bytes);
@@ -128,11 +151,11 @@ fn damage_values(random: &mut Random, film: &mut Film) {
     film.wedge = gauge.wedge;
 }
 
-/// Where a file's headers begin.
+/// Where a file's headers begin, that of a film without weights too.
 fn headers(film: &Film) -> Vec<usize> {
-    let weights = 15 + 2 * film.cells();
-    let wedge = weights + 3 + thickness_count(film.rows, film.columns);
-    let mut headers = vec![0, 5, 12, weights, wedge];
+    let thicknesses = 15 + 2 * film.weights.len();
+    let wedge = thicknesses + 3 + thickness_count(film.rows, film.columns);
+    let mut headers = vec![0, 5, 12, thicknesses, wedge];
     headers.extend(film.steps.map(|_| wedge + 7));
     headers
 }

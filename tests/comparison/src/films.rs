@@ -2,6 +2,7 @@
 
 use crate::numbers::Gauge;
 use crate::random::Random;
+use crate::unweighted::searched_soon;
 use film_oracle::coefficient_film::{convert, CoefficientFilm};
 use film_oracle::coefficients::form;
 use film_oracle::film::{thickness_count, Film, Steps};
@@ -33,7 +34,7 @@ pub fn shape(random: &mut Random) -> (usize, usize) {
 }
 
 /// Mostly none, so that most films are as they are without field 0A; else any, equal ones too.
-fn steps(random: &mut Random) -> Option<Steps> {
+pub fn steps(random: &mut Random) -> Option<Steps> {
     let (along, across) = (step(random), step(random));
     let steps = match random.below(10) {
         0..=2 => (1, 1),
@@ -66,7 +67,7 @@ pub fn gauge(random: &mut Random, film: &Film) -> Gauge {
 }
 
 /// A film with neither weights nor wedge yet.
-fn bare((rows, columns): (usize, usize), thickness: Vec<u8>, steps: Option<Steps>) -> Film {
+pub fn bare((rows, columns): (usize, usize), thickness: Vec<u8>, steps: Option<Steps>) -> Film {
     Film {
         rows,
         columns,
@@ -148,20 +149,8 @@ fn thicknesses(random: &mut Random, rows: usize, columns: usize) -> Vec<u8> {
 
 /// The least weights that hold a film, where they are found soon.
 fn held_weights(film: &Film) -> Option<Vec<u16>> {
-    let cells = film.cells();
-    let mut formed = form(film);
-    formed.sources = vec![-1; cells];
-    let mut field = vec![0; cells];
-    let outcome = run(
-        formed.system(),
-        u16::MAX.into(),
-        &[],
-        &mut field,
-        20_000 + 300 * cells as u32,
-        Ordering::Forward,
-        false,
-    );
-    (outcome.answer == Answer::Done).then(|| field.iter().map(|&w| w as u16).collect())
+    let (answer, found) = searched_soon(&form(film));
+    (answer == Answer::Done).then(|| found.iter().map(|&w| w as u16).collect())
 }
 
 /// Any wedge, or one that gives pressures of any size: they are some source by some diagonal.

@@ -10,7 +10,8 @@ use crate::problems;
 use crate::random::Random;
 use crate::tally::Tally;
 use crate::trial::{Compared, Disagreement, File, Step, Trial, REPORT_ROOM};
-use film_oracle::coefficient_film::{self, convert, COEFFICIENT_BUFFER};
+use crate::unweighted;
+use film_oracle::coefficient_film::{self, convert, CoefficientFilm, COEFFICIENT_BUFFER};
 use film_oracle::film::{file_length, write, Film, THICKNESS_BUFFER, WEIGHT_BUFFER};
 use film_oracle::report;
 
@@ -19,13 +20,16 @@ pub fn compare(random: &mut Random, tally: &mut Tally) -> Compared {
     match random.below(3_000) {
         0 | 1 => return slow_film(random, tally),
         2..=4 => return long_input(random, tally),
+        5 | 6 => return slow_search(random, tally),
         _ => {}
     }
     match random.below(100) {
-        0..=39 => accepted_film(random, tally),
-        40..=54 => damaged_film(random, tally),
-        55..=84 => coefficients(random, tally),
-        _ => damaged_coefficients(random, tally),
+        0..=34 => accepted_film(random, tally),
+        35..=47 => damaged_film(random, tally),
+        48..=74 => coefficients(random, tally),
+        75..=87 => damaged_coefficients(random, tally),
+        88..=93 => unweighted_film(random, tally),
+        _ => unweighted_coefficients(random, tally),
     }
 }
 
@@ -116,8 +120,105 @@ fn damaged_coefficients(random: &mut Random, tally: &mut Tally) -> Compared {
     wrong_coefficient_lengths(random, &mut trial, &problem)
 }
 
+/// A gauged film without weights, and the coefficient film of the same problem, without them too: the
+/// same ones are found.
+fn unweighted_film(random: &mut Random, tally: &mut Tally) -> Compared {
+    let film = unweighted::film(random);
+    let files = [write(&film), coefficient_film::write(&convert(&film))];
+    let mut trial = Trial::new(files[0].clone(), tally);
+    for file in &files {
+        read(&mut trial, file)?;
+    }
+    binding::compare_made(&mut trial, &film)?;
+    lists_alike(random, &mut trial, &files)?;
+    let found = film_oracle::film::read(&files[0]).expect("weights that are found soon");
+    gauged(&mut trial, films::gauge(random, &found))?;
+    binding::compare(random, &mut trial, &found)?;
+    alike_reports(random, &mut trial, &files, &convert(&found))?;
+    // Calls on its numbers want weights, and so do those on its coefficients.
+    gauged(&mut trial, films::gauge(random, &film))?;
+    unweighted_calls(random, &mut trial, Problem::from(&film))?;
+    for _ in 0..3 {
+        let file = damage::file(random, &film);
+        damaged_file(random, &mut trial, file)?;
+    }
+    Ok(())
+}
+
+/// A coefficient film without weights, which may have none.
+fn unweighted_coefficients(random: &mut Random, tally: &mut Tally) -> Compared {
+    let problem = unweighted::problem(random);
+    let file = coefficient_film::write(&problem.film());
+    let mut trial = Trial::new(file.clone(), tally);
+    read(&mut trial, &file)?;
+    binding::compare_made_coefficients(&mut trial, &problem)?;
+    match coefficient_film::read(&file) {
+        Ok(found) => {
+            meshed(&mut trial, Problem::from(&found))?;
+            list(random, &mut trial, &file)?;
+            binding::compare_coefficients(random, &mut trial, &found)?;
+            alike_reports(random, &mut trial, &[file], &found)?;
+        }
+        Err(_) => damaged_file(random, &mut trial, file)?,
+    }
+    meshed(&mut trial, problem.clone())?;
+    unweighted_calls(random, &mut trial, problem.clone())?;
+    for _ in 0..3 {
+        let file = damage::coefficient_file(random, &problem);
+        damaged_file(random, &mut trial, file)?;
+    }
+    Ok(())
+}
+
+/// Files without weights have the report of the film that is found, whose own files have it too.
+fn alike_reports(
+    random: &mut Random,
+    trial: &mut Trial,
+    files: &[Vec<u8>],
+    found: &CoefficientFilm,
+) -> Compared {
+    for file in files {
+        let placed = unweighted::written_again(file, &found.weights);
+        read(trial, &placed)?;
+        if quick(found) {
+            reported(random, trial, file)?;
+            reported(random, trial, &placed)?;
+            let mut differences = Differences::default();
+            differences.same("report in place", film::report(file), film::report(&placed));
+            trial.ended(differences)?;
+        }
+    }
+    Ok(())
+}
+
+/// Numeric calls with a slice of no weights.
+fn unweighted_calls(random: &mut Random, trial: &mut Trial, problem: Problem) -> Compared {
+    trial.step(Step::Film(problem.clone()))?;
+    trial.step(Step::Field(vec![0; problem.cells()]))?;
+    for _ in 0..2 {
+        let step = any_call(random, &problem);
+        trial.step(step)?;
+    }
+    Ok(())
+}
+
+/// A film without weights whose search is long, or as long as it may be.
+fn slow_search(random: &mut Random, tally: &mut Tally) -> Compared {
+    let file = unweighted::slow_file(random);
+    let mut trial = Trial::new(file.clone(), tally);
+    read(&mut trial, &file)?;
+    // The report makes the search once more, so it is not that of every such film.
+    if random.chance(30) {
+        trial.step(Step::Report(File(file), REPORT_ROOM))?;
+    }
+    Ok(())
+}
+
 /// Reads a damaged file, which becomes the trial's, and reports on it.
 fn damaged_file(random: &mut Random, trial: &mut Trial, file: Vec<u8>) -> Compared {
+    if !unweighted::read_soon(&file) {
+        return Ok(());
+    }
     trial.file = File(file.clone());
     read(trial, &file)?;
     binding::compare_file(trial, &file)?;

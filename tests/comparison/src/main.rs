@@ -13,6 +13,7 @@ mod problems;
 mod random;
 mod tally;
 mod trial;
+mod unweighted;
 
 use random::Random;
 use std::io::IsTerminal;

@@ -36,15 +36,15 @@ impl Tally {
 
 /// The answer of a call that told `number`, where `answered` is its answer if it isn't refused.
 pub fn answer(number: u32, answered: &'static str) -> &'static str {
-    const REFUSED: [&str; 16] = [
+    const REFUSED: [&str; 18] = [
         "", "no. 01", "no. 02", "no. 03", "no. 04", "no. 05", "no. 06", "no. 07", "no. 08",
-        "no. 09", "no. 10", "no. 11", "no. 12", "no. 13", "no. 14", "no. 15",
+        "no. 09", "no. 10", "no. 11", "no. 12", "no. 13", "no. 14", "no. 15", "no. 16", "no. 17",
     ];
     match number {
         0 => answered,
         number => REFUSED
             .get(number as usize)
             .copied()
-            .unwrap_or("no. above 15"),
+            .unwrap_or("no. above 17"),
     }
 }

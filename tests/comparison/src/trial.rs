@@ -6,6 +6,7 @@ use crate::fields::Sweep;
 use crate::lent::{Differences, Lent};
 use crate::numbers::{head, steps, Gauge, Problem, Sides};
 use crate::tally::{answer, Tally};
+use crate::unweighted::is_unweighted;
 use film::raw::{self, Formed, Ran};
 use film::Head;
 use film_oracle::film::{read_into, write_into};
@@ -373,9 +374,11 @@ fn read(
     differences.lent("weights", &weights, &lent_weights);
     differences.lent("thicknesses", &thicknesses, &lent_thicknesses);
     differences.lent("file", file, &lent_file);
-    let word = match wanted_steps.given {
-        1 => "with steps",
-        _ => "accepted",
+    let word = match (wanted_steps.given, is_unweighted(file)) {
+        (1, false) => "with steps",
+        (1, true) => "weights found, with steps",
+        (_, false) => "accepted",
+        (_, true) => "weights found",
     };
     tally.add("read", answer(number, word));
 }
