@@ -2,8 +2,8 @@
 """Writes crates/film_files: the film files in data/, their names in args and what the program must print in stdout.
 Usage: python3 tests/film_files.py
 
-Worked out from document 01 and request W2 of document 02 alone, in Python's whole numbers: it shares no line with the program. A film
-is described by its numbers; its file, and the answer to it, are worked out here. The faulty files carry the number and place that the
+Worked out from document 01 and requests W2 and W5 of document 02 alone, in Python's whole numbers: it shares no line with the program. A
+film is described by its numbers; its file, and the answer to it, are worked out here. The faulty files carry the number and place that the
 documents give for the fault, written beside each one by hand.
 """
 import os
@@ -19,7 +19,7 @@ def field(tag, body):
 class Film:
     def __init__(self, rows, columns, ceiling, weights, thicknesses, wedge, steps=None):
         self.rows, self.columns, self.ceiling = rows, columns, ceiling
-        self.weights, self.thicknesses, self.wedge = list(weights), list(thicknesses), wedge
+        self.weights, self.thicknesses, self.wedge = list(weights), list(thicknesses), wedge  # no weights: field 03 is empty
         self.steps = steps  # along and across, or None where the film has no field for them
 
     def but(self, **changes):
@@ -64,7 +64,8 @@ class Film:
         lines = [f"FILM {self.rows} {self.columns} {self.ceiling} {self.wedge}{steps}"]
         for name, numbers in (("DIAGONALS", diagonals), ("RIGHTS", rights), ("UPS", ups), ("SOURCES", sources)):
             lines.append(" ".join([name, *map(str, numbers)]))
-        return lines + ["WRITES BACK THE SAME"]
+        # The program lends as many bytes as were in the file: too few where found weights go into it.
+        return lines + ["WRITES BACK THE SAME" if self.weights else "REFUSED 10 0"]
 
 
 def around(film, r, c):
@@ -95,6 +96,9 @@ F = Film(1, 2, 100, [1, 1], [1, 1, 1, 1, 3, 2, 1, 1, 1, 1, 1, 1], 100)
 THREE = made(3, 3, 5000, -12345, 3)
 STEPS = F.but(steps=(2, 3))
 THREE_STEPS = made(3, 3, 5000, -12345, 3, steps=(3, 4))
+BARE = F.but(weights=[])
+# A thick cell inside thin ones: hardly anything flows out, and weights would have to pass 65,535. With 100 it has some.
+THICK = Film(3, 3, 16_777_216, [], [101 if i == 12 else 1 for i in range(25)], 1000)
 FILE = F.file()
 assert FILE.hex() == "0100020102" "02000400000064" "03000400010001" "04000c010101010302010101010101" "05000400000064"
 
@@ -130,6 +134,8 @@ VALID = [
     ("steps_of_a_column", made(32, 1, 65_536, -1, 4, steps=(1, 3))),
     ("steps_thick", made(4, 5, 1000, 1_000_000_000, 5, thicknesses=lambda draw: 128, steps=(4, 4))),
     ("steps_largest", made(32, 32, 100_000, -65_537, 8, steps=(4, 1))),
+    ("bare", BARE),
+    ("bare_of_three", THREE_STEPS.but(weights=[])),
 ]
 
 REFUSED = [
@@ -223,7 +229,31 @@ REFUSED = [
     ("across_before_stray", F.but(steps=(1, 5)).file() + b"\0", 15, 45),
     ("along_before_unheld", F.weight(1, 8).but(steps=(5, 1)).file(), 15, 44),
     ("stray_behind_steps_before_unheld", F.weight(1, 8).but(steps=(4, 1)).file() + b"\5", 2, 46),
+    # without weights the fields are at 0, 5, 12, 15 and 30, and that of the steps at 37
+    ("bare_cut", BARE.file()[:-1], 1, 36),
+    ("bare_tag", put(BARE.file(), 15, 5), 2, 15),
+    ("bare_and_a_byte", BARE.file() + b"\0", 2, 37),
+    ("bare_thickness", BARE.thickness(5, 0).file(), 7, 18 + 5),
+    ("bare_wedge", BARE.but(wedge=1_000_000_001).file(), 8, 33),
+    ("bare_across", BARE.but(steps=(1, 5)).file(), 15, 41),
+    ("weights_length_one", put(BARE.file(), 14, 1), 3, 12),
+    ("weights_behind_length_zero", put(FILE, 14, 0), 2, 15),
+    ("no_weights", THICK.file(), 16, 4),
+    ("stray_before_no_weights", THICK.file() + b"\0", 2, 50),
 ]
+
+
+def found(film):
+    """The film with its weights: those that it has, or the least, each raised from 0 to what its cell needs until none rises."""
+    if film.weights:
+        return film
+    film, before = film.but(weights=[0] * (film.rows * film.columns)), None
+    while film.weights != before:
+        before = list(film.weights)
+        for i, (r, c) in enumerate(cells(film)):
+            links = list(around(film, r, c))
+            film.weights[i] = sum(k * w for k, w in links) // sum(k for k, _ in links) + 1
+    return film
 
 
 def holds(film):
@@ -237,7 +267,7 @@ def main():
     os.makedirs(os.path.join(CRATE, "data"), exist_ok=True)
     names, lines = [], []
     for name, film in VALID:
-        if not holds(film):
+        if not holds(found(film)):
             raise SystemExit(f"{name} is no valid film")
     for name, file, answer in [(n, f.file(), f.answer()) for n, f in VALID] + [(n, f, [f"REFUSED {k} {p}"]) for n, f, k, p in REFUSED]:
         names.append(name)

@@ -56,8 +56,8 @@ impl CoefficientFilm {
     /// Reads a coefficient film's file. One of a gauged film is refused with 2 at its tag 04.
     ///
     /// Where field 03 is empty the film gets the least weights that hold it. To find them may take up
-    /// to 4,000,000 relaxations, some 20 ms. If none up to 65,535 hold it, the file is refused with
-    /// 16, and with 17 if that did not show by then.
+    /// to 4,000,000 relaxations, some hundredths of a second. If none up to 65,535 hold it, the file is
+    /// refused with 16, and with 17 if that did not show by then.
     pub fn read(file: &[u8]) -> Result<CoefficientFilm, Refusal> {
         let mut weights = vec![0; MOST_CELLS];
         let mut coefficients = Coefficients::room(MOST_CELLS);

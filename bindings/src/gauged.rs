@@ -76,8 +76,8 @@ impl Film {
     /// Reads a gauged film's file. One of a coefficient film is refused with 2 at its tag 06.
     ///
     /// Where field 03 is empty the film gets the least weights that hold it. To find them may take up
-    /// to 4,000,000 relaxations, some 20 ms. If none up to 65,535 hold it, the file is refused with
-    /// 16, and with 17 if that did not show by then.
+    /// to 4,000,000 relaxations, some hundredths of a second. If none up to 65,535 hold it, the file is
+    /// refused with 16, and with 17 if that did not show by then.
     pub fn read(file: &[u8]) -> Result<Film, Refusal> {
         let (mut weights, mut thicknesses) = (vec![0; MOST_CELLS], vec![0; 1_156]);
         let (mut head, mut wedge, mut place) = (Head::default(), 0, 0);

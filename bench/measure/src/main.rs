@@ -37,6 +37,7 @@ fn main() -> io::Result<()> {
             sections::files::section(),
             sections::growth::section(),
             sections::program::section(),
+            sections::search::section(),
         ],
     };
     print!("{}", page.text());

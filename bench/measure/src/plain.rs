@@ -2,6 +2,7 @@
 //! quiet cell, a division only for a raise, a table of cells; `get_unchecked` where Film has no
 //! check because the index is proved.
 
+use crate::calls::Refused;
 use crate::problem::System;
 
 /// How a run ends; Over has the cell that requires more than the ceiling.
@@ -71,6 +72,24 @@ pub fn run(system: System, order: &[u16], field: &mut [u32], budget: u32) -> Ran
         end,
         visits,
         raises,
+    }
+}
+
+/// The least weights of a film, where a file has none: the run from zero with source −1 in each cell,
+/// under the greatest weight. Refusals 16 and 17.
+#[inline(never)]
+pub fn least_weights(film: System) -> Result<[u16; 1_024], Refused> {
+    let n = film.diagonals.len();
+    let (sources, mut field) = ([-1; 1_024], [0; 1_024]);
+    let system = System {
+        ceiling: 65_535,
+        sources: &sources[..n],
+        ..film
+    };
+    match run(system, &forward(n), &mut field[..n], 4_000_000).end {
+        End::Done => Ok(field.map(|weight| weight as u16)),
+        End::Over(cell) => Err((16, cell)),
+        End::Stopped => Err((17, 0)),
     }
 }
 

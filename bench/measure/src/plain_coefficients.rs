@@ -4,7 +4,8 @@
 use crate::calls::{head, Refused};
 use crate::plain;
 use crate::plain_file::{
-    body, opening, report_run, test, test_ceiling, test_numbers, test_shape, test_weights, Numbers,
+    body, carried, opening, report_run, test, test_ceiling, test_numbers, test_shape, test_weights,
+    Numbers, WEIGHTS,
 };
 use crate::problem::System;
 use film::raw::Coefficients;
@@ -25,9 +26,9 @@ pub fn read(file: &[u8], lent: Coefficients) -> Result<Head, Refused> {
     test(fits, 10, 0)?;
     let (mut weights, mut sources) = ([0; PLACES], [0; PLACES]);
     let (mut diagonals, mut rights, mut ups) = ([0; PLACES], [0; PLACES], [0; PLACES]);
-    let (rows, columns, ceiling) = opening(file, &mut weights)?;
+    let (rows, columns, ceiling, at_diagonals) = opening(file, &mut weights)?;
     let cells = rows * columns;
-    let [at_diagonals, at_rights, at_ups, at_sources, end] = offsets(cells);
+    let [at_rights, at_ups, at_sources, end] = offsets(at_diagonals, cells);
     decode(
         body(file, at_diagonals, 6, 4 * cells)?,
         &mut diagonals,
@@ -59,22 +60,34 @@ pub fn read(file: &[u8], lent: Coefficients) -> Result<Head, Refused> {
         ups: &ups[..cells],
         sources: &sources[..cells],
     };
-    test_coefficients(found)?;
-    lent.weights[..cells].copy_from_slice(found.weights);
+    test_limits(found)?;
+    if at_diagonals == WEIGHTS {
+        let least = plain::least_weights(found)?;
+        lent.weights[..cells].copy_from_slice(&least[..cells]);
+    } else {
+        test_row_sums(found)?;
+        lent.weights[..cells].copy_from_slice(found.weights);
+    }
+    hand_over(found, lent);
+    Ok(head(rows, columns, ceiling))
+}
+
+/// The coefficients into the lent buffers, where the weights are already.
+#[inline(always)]
+fn hand_over(found: System, lent: Coefficients) {
+    let cells = found.diagonals.len();
     lent.diagonals[..cells].copy_from_slice(found.diagonals);
     lent.rights[..cells].copy_from_slice(found.rights);
     lent.ups[..cells].copy_from_slice(found.ups);
     lent.sources[..cells].copy_from_slice(found.sources);
-    Ok(head(rows, columns, ceiling))
 }
 
-/// Where fields 06 to 09 begin, and where the file ends.
-fn offsets(cells: usize) -> [usize; 5] {
-    let diagonals = 15 + 2 * cells;
+/// Where fields 07 to 09 begin, and where the file ends, by where field 06 begins.
+fn offsets(diagonals: usize, cells: usize) -> [usize; 4] {
     let rights = diagonals + 3 + 4 * cells;
     let ups = rights + 3 + 4 * cells;
     let sources = ups + 3 + 4 * cells;
-    [diagonals, rights, ups, sources, sources + 3 + 8 * cells]
+    [rights, ups, sources, sources + 3 + 8 * cells]
 }
 
 /// The numbers of a body, each of as many bytes as `number` takes.
@@ -88,8 +101,8 @@ fn decode<T, const BYTES: usize>(
     }
 }
 
-/// Refusals 14 and 9, each at the lowest cell that meets it.
-fn test_coefficients(system: System) -> Result<(), Refused> {
+/// Refusal 14, at the lowest cell that meets it.
+fn test_limits(system: System) -> Result<(), Refused> {
     for row in 0..system.rows {
         for column in 0..system.columns {
             let cell = row * system.columns + column;
@@ -102,6 +115,11 @@ fn test_coefficients(system: System) -> Result<(), Refused> {
             test(within, 14, cell)?;
         }
     }
+    Ok(())
+}
+
+/// Refusal 9, at the lowest cell that meets it.
+fn test_row_sums(system: System) -> Result<(), Refused> {
     (0..system.weights.len()).try_for_each(|cell| test(plain::dominance(system, cell) > 0, 9, cell))
 }
 
@@ -119,11 +137,13 @@ fn largest(outward: bool) -> u32 {
 pub fn write(film: System, out: &mut [u8]) -> Result<(), Refused> {
     test_shape(film.rows, film.columns)?;
     let cells = film.rows * film.columns;
-    let [at_diagonals, at_rights, at_ups, at_sources, end] = offsets(cells);
+    let at_diagonals = WEIGHTS + 2 * cells;
+    let [at_rights, at_ups, at_sources, end] = offsets(at_diagonals, cells);
     test(film.fits(cells) && out.len() == end, 10, 0)?;
     test_ceiling(film.ceiling)?;
     test_weights(film.weights)?;
-    test_coefficients(film)?;
+    test_limits(film)?;
+    test_row_sums(film)?;
     put_opening(film.rows, film.columns, film.ceiling, film.weights, out);
     put(out, at_diagonals, 6, film.diagonals, u32::to_be_bytes);
     put(out, at_rights, 7, film.rights, u32::to_be_bytes);
@@ -168,7 +188,8 @@ fn put_header(out: &mut [u8], at: usize, tag: u8, length: usize) -> &mut [u8] {
 pub fn convert(film: Numbers, out: &mut [u8]) -> Result<(), Refused> {
     test_shape(film.rows, film.columns)?;
     let cells = film.rows * film.columns;
-    let [at_diagonals, at_rights, at_ups, at_sources, end] = offsets(cells);
+    let at_diagonals = WEIGHTS + 2 * cells;
+    let [at_rights, at_ups, at_sources, end] = offsets(at_diagonals, cells);
     test(out.len() == end, 10, 0)?;
     test_numbers(film)?;
     put_opening(film.rows, film.columns, film.ceiling, film.weights, out);
@@ -205,8 +226,8 @@ pub fn has_coefficients(file: &[u8]) -> bool {
     let Some(&[rows, columns]) = file.get(3..5) else {
         return false;
     };
-    let behind_weights = 15 + 2 * usize::from(rows) * usize::from(columns);
-    file.get(behind_weights) == Some(&0x06)
+    let weights = carried(file, usize::from(rows) * usize::from(columns));
+    file.get(WEIGHTS + 2 * weights) == Some(&0x06)
 }
 
 /// The report of an accepted coefficient film's file.

@@ -123,16 +123,16 @@ pub fn read(
         return Err((10, 0));
     }
     let mut found = [0; 1_024];
-    let (rows, columns, ceiling) = opening(file, &mut found)?;
+    let (rows, columns, ceiling, at) = opening(file, &mut found)?;
     let cells = rows * columns;
     let ringed = (rows + 2) * (columns + 2);
-    let gauged = body(file, 15 + 2 * cells, 4, ringed)?;
-    test_thicknesses(gauged, cells)?;
-    let wedge = long(body(file, 18 + 2 * cells + ringed, 5, 4)?) as i32;
-    test_wedge(wedge, cells, ringed)?;
-    let (steps, end) = optional_steps(file, 25 + 2 * cells + ringed)?;
+    let gauged = body(file, at, 4, ringed)?;
+    test_thicknesses(gauged, at + 3)?;
+    let wedge = long(body(file, at + 3 + ringed, 5, 4)?) as i32;
+    test_wedge(wedge, at + 6 + ringed)?;
+    let (steps, end) = optional_steps(file, at + 10 + ringed)?;
     test(file.len() == end, 2, end)?;
-    Numbers {
+    let film = Numbers {
         rows,
         columns,
         ceiling,
@@ -140,11 +140,34 @@ pub fn read(
         thicknesses: gauged,
         wedge,
         steps,
+    };
+    if at == WEIGHTS {
+        let least = least_weights(film)?;
+        weights[..cells].copy_from_slice(&least[..cells]);
+    } else {
+        film.not_dominant()?;
+        weights[..cells].copy_from_slice(film.weights);
     }
-    .not_dominant()?;
-    weights[..cells].copy_from_slice(&found[..cells]);
     thicknesses[..ringed].copy_from_slice(gauged);
     Ok((head(rows, columns, ceiling), wedge, steps))
+}
+
+/// The weights of a gauged film whose file has none: its coefficients are formed for the search.
+#[inline(never)]
+fn least_weights(film: Numbers) -> Result<[u16; 1_024], Refused> {
+    let cells = film.rows * film.columns;
+    let mut lent = Lent::new(cells);
+    fill(film, &mut lent);
+    plain::least_weights(System {
+        rows: film.rows,
+        columns: film.columns,
+        ceiling: film.ceiling,
+        weights: film.weights,
+        diagonals: &lent.diagonals,
+        rights: &lent.rights,
+        ups: &lent.ups,
+        sources: &lent.sources,
+    })
 }
 
 /// The steps, if their tag stands behind the last required field, and where the file has to end.
@@ -161,22 +184,36 @@ fn optional_steps(file: &[u8], at: usize) -> Result<(Option<Steps>, usize), Refu
     Ok((Some(steps), at + 5))
 }
 
-/// Fields 01 to 03, with which both kinds of film begin: rows, columns and ceiling; the weights go
-/// to the table. A part of each reader, as if it were written there.
+/// Where the body of field 03 begins; where its field ends too, if the file has no weights.
+pub const WEIGHTS: usize = 15;
+
+/// Rows, columns and ceiling of a film, and where the field behind field 03 begins.
+type Opening = (usize, usize, u32, usize);
+
+/// Fields 01 to 03, with which both kinds of film begin; the weights, if there are any, go to the
+/// table. A part of each reader, as if it were written there.
 #[inline(always)]
-pub fn opening(file: &[u8], weights: &mut [u16; 1_024]) -> Result<(usize, usize, u32), Refused> {
+pub fn opening(file: &[u8], weights: &mut [u16; 1_024]) -> Result<Opening, Refused> {
     let shape = body(file, 0, 1, 2)?;
     let (rows, columns) = (usize::from(shape[0]), usize::from(shape[1]));
     test_shape(rows, columns)?;
-    let cells = rows * columns;
     let ceiling = long(body(file, 5, 2, 4)?);
     test_ceiling(ceiling)?;
-    let pairs = body(file, 12, 3, 2 * cells)?.chunks_exact(2);
+    let carried = carried(file, rows * columns);
+    let pairs = body(file, 12, 3, 2 * carried)?.chunks_exact(2);
     for (weight, pair) in weights.iter_mut().zip(pairs) {
         *weight = u16::from_be_bytes([pair[0], pair[1]]);
     }
-    test_weights(&weights[..cells])?;
-    Ok((rows, columns, ceiling))
+    test_weights(&weights[..carried])?;
+    Ok((rows, columns, ceiling, WEIGHTS + 2 * carried))
+}
+
+/// As many weights as a file of so many cells has: all, or none where the length of field 03 is 0.
+pub fn carried(file: &[u8], cells: usize) -> usize {
+    match file.get(13..WEIGHTS) {
+        Some([0, 0]) => 0,
+        _ => cells,
+    }
 }
 
 /// One field: header, tag, length, presence of the body.
@@ -217,16 +254,16 @@ pub fn test_weights(weights: &[u16]) -> Result<(), Refused> {
     }
 }
 
-fn test_thicknesses(thicknesses: &[u8], cells: usize) -> Result<(), Refused> {
+/// `at` is the offset of the first.
+fn test_thicknesses(thicknesses: &[u8], at: usize) -> Result<(), Refused> {
     match thicknesses.iter().position(|h| !(1..=128).contains(h)) {
-        Some(number) => Err((7, 18 + 2 * cells + number)),
+        Some(number) => Err((7, at + number)),
         None => Ok(()),
     }
 }
 
-fn test_wedge(wedge: i32, cells: usize, ringed: usize) -> Result<(), Refused> {
-    let passed = (-1_000_000_000..=1_000_000_000).contains(&wedge);
-    test(passed, 8, 21 + 2 * cells + ringed)
+fn test_wedge(wedge: i32, at: usize) -> Result<(), Refused> {
+    test((-1_000_000_000..=1_000_000_000).contains(&wedge), 8, at)
 }
 
 fn test_steps(steps: Steps, at: usize) -> Result<(), Refused> {
@@ -259,8 +296,8 @@ pub fn test_numbers(film: Numbers) -> Result<(), Refused> {
     test(fits, 10, 0)?;
     test_ceiling(film.ceiling)?;
     test_weights(film.weights)?;
-    test_thicknesses(film.thicknesses, cells)?;
-    test_wedge(film.wedge, cells, ringed)?;
+    test_thicknesses(film.thicknesses, 18 + 2 * cells)?;
+    test_wedge(film.wedge, 21 + 2 * cells + ringed)?;
     if let Some(steps) = film.steps {
         test_steps(steps, 28 + 2 * cells + ringed)?;
     }

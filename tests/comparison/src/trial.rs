@@ -374,13 +374,17 @@ fn read(
     differences.lent("weights", &weights, &lent_weights);
     differences.lent("thicknesses", &thicknesses, &lent_thicknesses);
     differences.lent("file", file, &lent_file);
-    let word = match (wanted_steps.given, is_unweighted(file)) {
-        (1, false) => "with steps",
-        (1, true) => "weights found, with steps",
-        (_, false) => "accepted",
-        (_, true) => "weights found",
-    };
-    tally.add("read", answer(number, word));
+    tally.add("read", answer(number, read_word(file, wanted_steps)));
+}
+
+/// The word that tells what a film that was read has.
+fn read_word(file: &[u8], steps: raw::Steps) -> &'static str {
+    match (is_unweighted(file), steps.given) {
+        (false, 0) => "accepted",
+        (false, _) => "with steps",
+        (true, 0) => "weights found",
+        (true, _) => "weights found, with steps",
+    }
 }
 
 /// Lends a film's numbers to a call, and looks whether they are unchanged.

@@ -104,8 +104,8 @@ pub fn slow_file(random: &mut Random) -> Vec<u8> {
 /// A thick pad inside two thin courses, the ring and the outermost cells: hardly anything flows out, so
 /// weights climb by some 1 a round. With 62 cells and more the budget ends before they pass 65,535.
 fn thick_pad(random: &mut Random) -> Film {
-    let (rows, columns) = random.pick(&[(3, 3), (3, 4), (5, 4), (7, 9), (12, 12), (32, 32)]);
-    let thick = random.within(10, 128) as u8;
+    let (rows, columns) = random.pick(&[(3, 3), (3, 4), (5, 4), (5, 5), (7, 9), (32, 32)]);
+    let thick = random.within(60, 128) as u8;
     let mut thickness = vec![1; thickness_count(rows, columns)];
     for r in 2..rows {
         let row = &mut thickness[r * (columns + 2)..(r + 1) * (columns + 2)];

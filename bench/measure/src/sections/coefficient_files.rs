@@ -22,7 +22,7 @@ pub fn rows(films: &[(&str, Film)]) -> Vec<Vec<String>> {
         .iter()
         .for_each(|(name, file)| check_read(name, file));
     let measured: [(&str, Times); 4] = [
-        ("read", read_times),
+        ("read", |film| read_times(&write(&convert(film)))),
         ("write", write_times),
         ("convert", convert_times),
         ("report", |film| report_times(&write(&convert(film)))),
@@ -114,16 +114,16 @@ fn check_read(name: &str, file: &[u8]) {
     }
 }
 
-fn read_times(film: &Film) -> [f64; 2] {
-    let file = write(&convert(film));
-    check_read("a measured film", &file);
+/// Reading a coefficient film's file.
+pub fn read_times(file: &[u8]) -> [f64; 2] {
+    check_read("a measured film", file);
     let (mut one, mut other) = (Buffers::new(), Buffers::new());
     by_turns([
         &mut || {
-            let _ = black_box(calls::read_coefficients(&file, one.lent()));
+            let _ = black_box(calls::read_coefficients(file, one.lent()));
         },
         &mut || {
-            let _ = black_box(plain_coefficients::read(&file, other.lent()));
+            let _ = black_box(plain_coefficients::read(file, other.lent()));
         },
     ])
 }

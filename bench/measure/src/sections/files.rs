@@ -37,7 +37,7 @@ pub fn section() -> Section {
     ];
     let mut rows = Vec::new();
     for (name, film) in &films {
-        rows.push(row("read", name, read_times(film)));
+        rows.push(row("read", name, read_times(&write(film))));
     }
     for (name, film) in &films {
         rows.push(row("form", name, form_times(film)));
@@ -116,17 +116,17 @@ fn check_read(name: &str, file: &[u8]) {
     }
 }
 
-fn read_times(film: &Film) -> [f64; 2] {
-    let file = write(film);
-    check_read("a measured film", &file);
+/// Reading a gauged film's file.
+pub fn read_times(file: &[u8]) -> [f64; 2] {
+    check_read("a measured film", file);
     let (mut one, mut other) = (Buffers::new(), Buffers::new());
     by_turns([
         &mut || {
-            let _ = black_box(calls::read(&file, &mut one.weights, &mut one.thicknesses));
+            let _ = black_box(calls::read(file, &mut one.weights, &mut one.thicknesses));
         },
         &mut || {
             let _ = black_box(plain_file::read(
-                &file,
+                file,
                 &mut other.weights,
                 &mut other.thicknesses,
             ));

@@ -7,3 +7,4 @@ pub mod program;
 pub mod proposals;
 pub mod real_numbers;
 pub mod relaxations;
+pub mod search;

@@ -19,10 +19,19 @@ pub const MODE: &str = "report";
 const NOTE: &str = "\
 `film_report`, which `./film` runs, and a process that does the same in plain Rust: reading, forming, run and
 printing of sections 1 and 4. Each has a sample film as its standard input and prints the report into a pipe.
-Microseconds from a process's start to its end; film F's go into the start. mesh.film is a coefficient film.";
+Microseconds from a process's start to its end; film F's go into the start. mesh.film is a coefficient film, and
+rough-pad.film has no weights, which are found first.";
 
 pub fn section() -> Section {
-    let films = ["film-f", "tilted-pad", "journal", "over", "stopped", "mesh"];
+    let films = [
+        "film-f",
+        "tilted-pad",
+        "journal",
+        "over",
+        "stopped",
+        "mesh",
+        "rough-pad",
+    ];
     Section {
         title: "6. The report program as a whole",
         note: NOTE.to_string(),
