@@ -1,6 +1,6 @@
 // Reads the film files that its arguments name, and prints for each the refusal, or the film, its coefficients, and whether
-// writing what was read gives the file's own bytes. data/ has valid files of several sizes, with grid steps and without, each refusal 1 to 9
-// and 15 at several places, and files with two faults.
+// writing what was read gives the file's own bytes. data/ has valid files of several sizes, with grid steps and without, some without weights (whose writer
+// is lent a slice that is too short for the found ones), each refusal 1 to 9, 15 and 16 at several places, and files with two faults.
 //
 // data/, args and stdout are written by tests/film_files.py, from documents 01 and 02 alone: it shares no line with this program, works
 // in Python's whole numbers, and each faulty file carries its refusal's number and place written by hand.

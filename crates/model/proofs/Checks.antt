@@ -18,6 +18,7 @@ use Rattle.model.specs.Integers.{atMostZero}
 use Rattle.model.specs.Refusals.{Check, pass, fail, _orElse_, failIf, failFirst}
 use Rattle.model.specs.Film.{Film, sizeOf, rowOf, columnOf, diagonalAt, rightAt, upAt, weightAt, pullOf, dominance, systemOf, rule}
 use Rattle.model.specs.Checks.{outside, shapeCheck, ceilingCheck, filmFits, badCoefficient, zeroWeight, notDominant, sizeCheck, coefficientCheck, weightCheck, dominanceCheck, startCheck, numericCheck, fieldCheck}
+use Rattle.model.specs.Result.{answerBy, refused}
 use Rattle.model.specs.Accepted.{Sized, LimitedCell, Limited, Accepted}
 use Rattle.model.proofs.Lists.{first-miss, first-same}
 use Rattle.model.proofs.Film.{slack-atMostZero, bounded-cells}
@@ -44,6 +45,11 @@ orElse-parts (fail number place) y e = (e, cc)
 -- and back: two tests pass where each does
 pub pass-both : {x y : Check} → x ≡ pass → y ≡ pass → (x orElse y) ≡ pass
 pass-both e f = rw (e, f)
+
+-- a refused answer is what its tests failed with
+pub refusal-of : {A : Type 0} (c : Check) (a : A) {number place : ℕ} → answerBy c a ≡ refused number place → c ≡ fail number place
+refusal-of pass a e = let z : _≡_ {A = ℕ} 0 1 = cc in absurd (omega arith)
+refusal-of (fail n k) a e = cc
 
 pub failIf-pass : (bad : Bool) (number place : ℕ) → failIf bad number place ≡ pass → bad ≡ false
 failIf-pass true number place e = cc

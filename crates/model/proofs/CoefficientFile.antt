@@ -10,7 +10,7 @@ use borrow.Author.Tests.{eqb-false, eq-eqb, ne-eqb}
 use lib.Dec.{eqb}
 use lib.IntN.{pos}
 use lib.ListN.{length, getD}
-use Rattle.model.specs.Limits.{sideLimit, ceilingLimit}
+use Rattle.model.specs.Limits.{sideLimit, ceilingLimit, weightLimit}
 use Rattle.model.specs.Lists.{tabulate}
 use Rattle.model.specs.Refusals.{Check, pass, fail, _orElse_}
 use Rattle.model.specs.Gauge.{Gauge}
@@ -18,18 +18,19 @@ use Rattle.model.specs.Film.{Film, sizeOf, weighted, diagonalAt, rightAt
 use Rattle.model.specs.Coefficients.{formed}
 use Rattle.model.specs.Checks.{outside, shapeCheck, ceilingCheck, filmFits, coefficientCheck, weightCheck, dominanceCheck, sizeCheck, badCoefficient, notDominant}
 use Rattle.model.specs.Accepted.{Sized, Limited, Accepted}
-use Rattle.model.specs.Weighing.{foundWeights, weightsFor, heldCheck, LeastWeights}
-use Rattle.model.specs.Result.{answered, answerBy}
+use Rattle.model.specs.Weighing.{foundWeights, searchCheck, weightsFor, heldCheck, Weights, LeastWeights}
+use Rattle.model.specs.Result.{answered, refused, answerBy}
 use Rattle.model.specs.Bytes.{byteAt, wordAt, longAt, word, long, listed}
 use Rattle.model.specs.Fields.{Field, field, fieldsEnd, bytesOf}
 use Rattle.model.specs.File.{rowsOffset, columnsOffset, ceilingOffset, weightsOffset, cellsIn, weightless, fieldsCheck, weightBytes, weightsCheck, gaugeCheck, Bytes, Values, InPlace}
-use Rattle.model.specs.CoefficientFile.{diagonalsField, rightsField, upsField, sourcesField, coefficientFields, diagonalsOffset, rightsOffset, upsOffset, sourcesOffset, coefficientEnd, longsAt, signedQuadsAt, coefficientFileCheck, readCoefficients, sourceBytes, coefficientBodies, coefficientFileOf, writerCheck, CoefficientValues}
+use Rattle.model.specs.CoefficientFile.{diagonalsField, rightsField, upsField, sourcesField, coefficientFields, diagonalsOffset, rightsOffset, upsOffset, sourcesOffset, coefficientEnd, longsAt, signedQuadsAt, coefficientsIn, coefficientFieldsIn, coefficientFileCheck, readCoefficients, sourceBytes, coefficientBodies, coefficientFileOf, writerCheck, CoefficientValues}
 use Rattle.model.proofs.Lists.{tabulate-length, tabulate-below}
-use Rattle.model.proofs.Checks.{within, orElse-parts, pass-both, failIf-pass, failFirst-pass, fits-lengths, coefficient-passes}
+use Rattle.model.proofs.Checks.{within, orElse-parts, pass-both, failIf-pass, failFirst-pass, fits-lengths, coefficient-passes, refusal-of}
 use Rattle.model.proofs.Codes.{bytes-nil, bytes-cons, word-code, long-code, signed-quad-code, within-abs, listed-length, listed-writes, listed-bytes}
 use Rattle.model.proofs.Fields.{Passes, fields-pass, pass-fields, bodiesIn, whole-file, begins-whole, Fit, Laid, laid, bytes-length}
 use Rattle.model.proofs.Opening.{Shaped, shape-passes, has-weights, Continues, continues, list-inside, Opened, opening-reads}
-use Rattle.model.proofs.Weighing.{ones, found-least, found-accepted}
+use Rattle.model.proofs.Numbered.{searched-coefficients}
+use Rattle.model.proofs.Weighing.{ones, found-least, found-accepted, none-found, least-weighted}
 use Rattle.model.proofs.File.{weights-alike, fields-bytes}
 use Rattle.model.proofs.Forming.{outside-false, pass-first, accepted-passes, formed-accepted}
 
@@ -455,6 +456,25 @@ coefficients-placed bytes f B c e =
           was = sym (fields-are B 0 (P .fields) (P .ends));
           is = ap (λ (k : ℕ). field 1 2 (h .rows ∷ h .columns ∷ []) ++ field 2 4 (long (h .ceiling)) ++ field 3 k (weightBytes (filmBy true bytes .weights)) ++ back) size;
         }
+
+-- The film that is read from it has the least weights, ..
+pub coefficients-least : (bytes : List ℕ) (f : Film) → weightless bytes ≡ true → readCoefficients bytes ≡ answered f → LeastWeights f (f .weights)
+unfolding coefficientFileCheck
+coefficients-least bytes f c e =
+    let r = read-by true bytes f (subst (λ none. answerBy (checkBy none bytes) (filmBy none bytes) ≡ answered f) c e) in
+    subst (λ (h : Film). LeastWeights h (h .weights)) (r .same) (least-weighted (filmBy true bytes .weights) (found-in bytes (r .passed)))
+
+-- .. and where a file is refused with 16, no weights up to 65,535 do it.
+pub coefficients-none : (bytes : List ℕ) (i : ℕ) → readCoefficients bytes ≡ refused 16 i
+    → (z : List ℕ) → Weights (coefficientsIn bytes) z → ((j : ℕ) → j < cellsIn bytes → getD z j 0 ≤ weightLimit) → ⊥
+coefficients-none bytes i e z K low =
+    let S = searched-coefficients bytes i (refusal-of _ _ e) in
+    let passed = orElse-parts (fieldsCheck (coefficientFieldsIn bytes) bytes) (coefficientCheck (coefficientsIn bytes)) (S .fields-passed) in
+    let fields : fieldsCheck (fieldsBy true bytes) bytes ≡ pass = subst (λ none. fieldsCheck (fieldsBy none bytes) bytes ≡ pass) (S .none) (passed .0) in
+    let limits : coefficientCheck (coefficientsBy 0 bytes) ≡ pass = subst (λ none. coefficientCheck (coefficientsBy (hasOf none bytes) bytes) ≡ pass) (S .none) (passed .1) in
+    let searched : searchCheck (coefficientsBy 0 bytes) ≡ fail 16 i = subst (λ none. searchCheck (coefficientsBy (hasOf none bytes) bytes) ≡ fail 16 i) (S .none) (S .found) in
+    let L = limited-in bytes 0 (ones (cellsIn bytes)) (tabulate-length _ _) (fields-pass (fieldsBy true bytes) bytes fields .0) limits in
+    none-found (coefficientsBy 0 bytes) (ones (cellsIn bytes)) L i searched z (subst (λ none. Weights (coefficientsBy (hasOf none bytes) bytes) z) (S .none) K) low
 
 pub placed-coefficients : (bytes : List ℕ) (f : Film) → Bytes bytes → readCoefficients bytes ≡ answered f → readCoefficients (coefficientFileOf f) ≡ readCoefficients bytes
 placed-coefficients bytes f B e = let v = coefficients-values bytes f B e in coefficients-written f (v .0) (v .1) ∙ sym e

@@ -27,19 +27,20 @@ use Rattle.model.specs.Film.{beside, across, neighbours}
 use Rattle.model.specs.Coefficients.{formed}
 use Rattle.model.specs.Checks.{outside, notDominant, dominanceCheck}
 use Rattle.model.specs.Accepted.{Limited}
-use Rattle.model.specs.Weighing.{foundWeights, searchCheck, weightsFor, heldCheck, LeastWeights}
-use Rattle.model.specs.Result.{Answer, answered, answerBy}
+use Rattle.model.specs.Weighing.{foundWeights, searchCheck, weightsFor, heldCheck, Weights, LeastWeights}
+use Rattle.model.specs.Result.{answered, refused, answerBy}
 use Rattle.model.specs.Bytes.{byteAt, wordAt, longAt, word, long, signedOf, unsignedOf}
 use Rattle.model.specs.Fields.{Field, body, fieldsEnd, fieldAt, field, bytesOf, Optional, absent, partsIn, present, givens, fieldsIn}
 use Rattle.model.specs.File.{cells, ringed, weightsFrom, thicknessesFrom, wedgeCheck, shapeField, ceilingField, thicknessesField, wedgeField, gauged, rowsOffset, columnsOffset, ceilingOffset, weightsOffset, thicknessesOffset, wedgeOffset, endOffset, cellsIn, ringIn, weightless, carriedIn, gaugedIn, numbersIn, gaugeIn, gaugeDominance, fieldsCheck, fileCheck, readFilm, weightBytes, bodies, fileOf, weightsCheck, thicknessesCheck, gaugeCheck, Bytes, Values, InPlace, factorsFrom, stepsCheck, factorsAt, stepsField, gaugedOptional, stepsOffset, stepsPart, stepsOf, gaugedParts, parts, gaugedFields, gaugedEnd}
 use Rattle.model.specs.FilmF.{bytesF, FileEdges}
 use Rattle.model.proofs.Lists.{tabulate-length, tabulate-at, tabulate-is, tabulate-below}
-use Rattle.model.proofs.Checks.{orElse-parts, pass-both, failFirst-same}
+use Rattle.model.proofs.Checks.{orElse-parts, pass-both, failFirst-same, refusal-of}
 use Rattle.model.proofs.Codes.{bytes-nil, bytes-cons, bytes-append, word-code, long-code, signed-long-code, within-abs, listed-length, listed-writes, listed-bytes}
 use Rattle.model.proofs.Fields.{Passes, fields-pass, pass-fields, bodiesIn, whole-file, begins-whole, Fit, Laid, laid, bytes-length}
 use Rattle.model.proofs.Optional.{partIf, bodies-append, parts-bodies, parts-written}
 use Rattle.model.proofs.Opening.{has-weights, Continues, continues, number-inside, Opened, opening-reads}
-use Rattle.model.proofs.Weighing.{ones, found-least, found-accepted}
+use Rattle.model.proofs.Numbered.{searched-file}
+use Rattle.model.proofs.Weighing.{ones, found-least, found-accepted, none-found, least-weighted}
 use Rattle.model.proofs.Forming.{formed-limited, accepted-gauge}
 use Rattle.model.proofs.GaugeTests.{cellsOf, ringOf, gauge-tests, thicknesses-anywhere, wedge-anywhere, steps-anywhere}
 pub use Rattle.model.proofs.GaugeTests.{NumbersPassed, GaugePassed, gauge-passes, gauge-shape, wedge-low, stepped}
@@ -420,6 +421,23 @@ weights-placed bytes g B c e =
           was = sym (fields-are B 0 (P .fields) (P .ends));
           is = ap (λ (n : ℕ). field 1 2 (h .rows ∷ h .columns ∷ []) ++ field 2 4 (long (h .ceiling)) ++ field 3 n (weightBytes (gaugeBy true bytes .weights)) ++ back) size;
         }
+
+-- The film that is read from it has the least weights, ..
+pub read-least : (bytes : List ℕ) (g : Gauge) → weightless bytes ≡ true → readFilm bytes ≡ answered g → LeastWeights (formed g) (g .weights)
+unfolding fileCheck
+read-least bytes g c e =
+    let r = read-by true bytes g (subst (λ none. answerBy (checkBy none bytes) (gaugeBy none bytes) ≡ answered g) c e) in
+    subst (λ (h : Gauge). LeastWeights (formed h) (h .weights)) (r .same) (least-weighted (gaugeBy true bytes .weights) (found-in bytes (r .passed)))
+
+-- .. and where a file is refused with 16, no weights up to 65,535 do it.
+pub refused-none : (bytes : List ℕ) (i : ℕ) → readFilm bytes ≡ refused 16 i
+    → (z : List ℕ) → Weights (formed (numbersIn bytes)) z → ((j : ℕ) → j < cellsIn bytes → getD z j 0 ≤ weightLimit) → ⊥
+refused-none bytes i e z K low =
+    let S = searched-file bytes i (refusal-of _ _ e) in
+    let fields : fieldsCheck (fieldsBy 0 bytes) bytes ≡ pass = subst (λ none. fieldsCheck (fieldsBy (hasOf none bytes) bytes) bytes ≡ pass) (S .none) (S .fields-passed) in
+    let searched : searchCheck (formed (numbersBy 0 bytes)) ≡ fail 16 i = subst (λ none. searchCheck (formed (numbersBy (hasOf none bytes) bytes)) ≡ fail 16 i) (S .none) (S .found) in
+    none-found (formed (numbersBy 0 bytes)) (ones (cellsIn bytes)) (formed-found bytes (fields-pass (fieldsBy 0 bytes) bytes fields .0)) i searched z
+    (subst (λ none. Weights (formed (numbersBy (hasOf none bytes) bytes)) z) (S .none) K) low
 
 pub placed-reads : (bytes : List ℕ) (g : Gauge) → Bytes bytes → readFilm bytes ≡ answered g → readFilm (fileOf g) ≡ readFilm bytes
 placed-reads bytes g B e = let v = read-values bytes g B e in written-reads g (v .0) (v .1) ∙ sym e

@@ -222,3 +222,14 @@ module _ (f : Film) (w : List ℕ) (L : Limited (weighted f w)) where
   found-accepted e =
       let M = found-least e in
       record { limited = limited-weighted (weighted f w) (foundWeights f) (M .holds .len) L; weight = M .some; dominant = M .holds .held }
+
+-- what is claimed of found weights does not look at the weights that a film has
+pub least-weighted : {f : Film} {w : List ℕ} (v : List ℕ) → LeastWeights f w → LeastWeights (weighted f v) w
+least-weighted v M =
+    record {
+      holds = record { len = M .holds .len; held = M .holds .held };
+      some = M .some;
+      low = M .low;
+      under = λ z K. M .under z (record { len = K .len; held = K .held });
+      under-signed = λ a b S. M .under-signed a b (record { a-len = S .a-len; b-len = S .b-len; held = S .held });
+    }
