@@ -1,5 +1,5 @@
 -- The numbers that a file whose fields have passed holds, its weights, and what the reader gives of them.
-use mathlib.Core.Path.{_≡_, refl, sym, ap, _∙_, subst}
+use mathlib.Core.Path.{_≡_, sym, ap, _∙_, subst}
 use mathlib.Core.Bool.{true, false}
 use mathlib.Core.List.{List, []}
 use Prim.Native.Nat.{ℕ, _+_, _*_, _≤_}
@@ -22,13 +22,12 @@ use Rattle.model.specs.CoefficientCalls.{filmHead, LoadsFilm}
 use Rattle.model.specs.Result.{Answer, answered, refused}
 use Rattle.model.proofs.Lists.{tabulate-length}
 use Rattle.model.proofs.Fields.{Passes, fields-pass, passes-end}
-use Rattle.model.proofs.Opening.{Shaped, shape-passes, carried-low, carries-all}
+use Rattle.model.proofs.Opening.{shape-passes, carried-low, carries-all}
 use Rattle.model.proofs.Weighing.{ones}
 use Rattle.model.proofs.CoefficientFile.{sized-in, limited-in}
 use Rattle.model.proofs.Sides.{cells-low}
 use Rattle.text.proofs.Writes.{sets-front}
 use Rattle.refusals.specs.Parts.{unweighted, sourceless}
-use Rattle.refusals.proofs.Chain.{goes-on}
 use Rattle.weighing.specs.Searches.{Searchable, Searches}
 use Rattle.coefficient_reading.specs.Reading.{Buffers, Decoded, Stands, restCheck, Weighs}
 

@@ -16,7 +16,7 @@ use Rattle.model.specs.Refusals.{Check, pass, fail, _orElse_}
 use Rattle.model.specs.Gauge.{Gauge}
 use Rattle.model.specs.Film.{Film, sizeOf, weighted, diagonalAt, rightAt, upAt, sourceAt}
 use Rattle.model.specs.Coefficients.{formed}
-use Rattle.model.specs.Checks.{outside, shapeCheck, ceilingCheck, filmFits, coefficientCheck, weightCheck, dominanceCheck, sizeCheck, badCoefficient, notDominant}
+use Rattle.model.specs.Checks.{shapeCheck, ceilingCheck, filmFits, coefficientCheck, weightCheck, dominanceCheck, sizeCheck, badCoefficient, notDominant}
 use Rattle.model.specs.Accepted.{Sized, Limited, Accepted}
 use Rattle.model.specs.Weighing.{foundWeights, searchCheck, weightsFor, heldCheck, Weights, LeastWeights}
 use Rattle.model.specs.Result.{answered, refused, answerBy}
@@ -28,7 +28,7 @@ use Rattle.model.proofs.Lists.{tabulate-length, tabulate-below}
 use Rattle.model.proofs.Checks.{within, orElse-parts, pass-both, failIf-pass, failFirst-pass, fits-lengths, coefficient-passes, refusal-of}
 use Rattle.model.proofs.Codes.{bytes-nil, bytes-cons, word-code, long-code, signed-quad-code, within-abs, listed-length, listed-writes, listed-bytes}
 use Rattle.model.proofs.Fields.{Passes, fields-pass, pass-fields, bodiesIn, whole-file, begins-whole, Fit, Laid, laid, bytes-length}
-use Rattle.model.proofs.Opening.{Shaped, shape-passes, has-weights, Continues, continues, list-inside, Opened, opening-reads}
+use Rattle.model.proofs.Opening.{shape-passes, has-weights, Continues, continues, list-inside, Opened, opening-reads}
 use Rattle.model.proofs.Numbered.{searched-coefficients}
 use Rattle.model.proofs.Weighing.{ones, found-least, found-accepted, none-found, least-weighted}
 use Rattle.model.proofs.File.{weights-alike, fields-bytes}

@@ -1,23 +1,22 @@
 -- Reader, writer and converter of coefficient films, as promises of the calls: from nothing but the records that stand in their `ensures`.
-use mathlib.Core.Path.{_≡_, refl, sym, ap, _∙_, subst}
-use mathlib.Core.Bool.{Bool, true, false, not, _&&_}
+use mathlib.Core.Path.{_≡_, sym, ap, _∙_, subst}
+use mathlib.Core.Bool.{Bool, true, false, not}
 use mathlib.Core.List.{List}
 use Prim.Native.Nat.{ℕ, _+_, _*_, _<_}
 use native.Mathlib.Omega.{arith}
 use borrow.Author.Tests.{eq-eqb, not-false}
-use lib.Dec.{eqb}
 use lib.IntN.{ℤ}
 use lib.ListN.{length, getD, take}
 use Rattle.model.specs.declared.Head.{Head}
 use Rattle.model.specs.declared.Steps.{Steps}
-use Rattle.model.specs.Refusals.{Check, pass, fail, _orElse_, failIf}
+use Rattle.model.specs.Refusals.{pass, failIf}
 use Rattle.model.specs.Gauge.{Gauge}
 use Rattle.model.specs.Film.{Film, filmOf, sizeOf}
 use Rattle.model.specs.Coefficients.{formed}
 use Rattle.model.specs.Checks.{shapeCheck, filmFits}
 use Rattle.model.specs.Result.{Answer, answered, refused, answerBy, Gives}
-use Rattle.model.specs.File.{cells, ringed, rowsOffset, columnsOffset, cellsIn, weightless, readFilm, Bytes, Values, InPlace}
-use Rattle.model.specs.FileCalls.{film, laidOver, Loads, used}
+use Rattle.model.specs.File.{cells, rowsOffset, columnsOffset, cellsIn, weightless, Bytes, Values, InPlace}
+use Rattle.model.specs.FileCalls.{film, Loads, used}
 use Rattle.model.specs.CoefficientFile.{coefficientEnd, filmIn, coefficientFileCheck, readCoefficients, coefficientFileOf, writerCheck, CoefficientValues}
 use Rattle.model.specs.CoefficientCalls.{filmHead, buffersFit, coefficientLoadCheck, LoadsFilm, LoadsCoefficients, usedFilm, coefficientSaveCheck, coefficientSaveCall, convertCheck, convertCall}
 use Rattle.model.specs.EitherFile.{readEither}
@@ -26,7 +25,7 @@ use Rattle.model.proofs.Checks.{and-parts, orElse-parts, failIf-pass}
 use Rattle.model.proofs.Opening.{placed-length}
 use Rattle.model.proofs.File.{read-values}
 use Rattle.model.proofs.Inverse.{answer-passed, save-gauge, laid, refused-same, read-film}
-use Rattle.model.proofs.CoefficientFile.{coefficients-length, coefficients-written, coefficients-write, coefficients-accepted, coefficients-values, coefficients-placed, placed-coefficients, converted-reads, converted-length}
+use Rattle.model.proofs.CoefficientFile.{coefficients-length, coefficients-written, coefficients-write, coefficients-accepted, coefficients-values, coefficients-placed, placed-coefficients, converted-reads}
 use Rattle.model.proofs.EitherFile.{converted-same}
 
 -- ---- the reader

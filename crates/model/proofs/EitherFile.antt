@@ -6,7 +6,7 @@ use mathlib.Core.List.{List, [], _∷_}
 use Prim.Native.Nat.{ℕ}
 use native.Mathlib.Omega.{arith}
 use lib.Dec.{eqb}
-use Rattle.model.specs.Refusals.{Check, pass, fail, _orElse_}
+use Rattle.model.specs.Refusals.{pass, fail, _orElse_}
 use Rattle.model.specs.Gauge.{Gauge}
 use Rattle.model.specs.Film.{Film}
 use Rattle.model.specs.Coefficients.{formed}
@@ -19,7 +19,7 @@ use Rattle.model.specs.File.{shapeField, ceilingField, weightsField, thi
 use Rattle.model.specs.CoefficientFile.{diagonalsField, rightsField, upsField, sourcesField, coefficientsIn, filmIn, coefficientFieldsIn, coefficientFileCheck, readCoefficients, coefficientFileOf}
 use Rattle.model.specs.EitherFile.{tagged06, formedBy, readEither}
 use Rattle.model.specs.Report.{reportBy, reportOf}
-use Rattle.model.proofs.Opening.{Continues, tag-refused, opening-refused}
+use Rattle.model.proofs.Opening.{tag-refused, opening-refused}
 use Rattle.model.proofs.File.{read-values, read-continues}
 use Rattle.model.proofs.Forming.{accepted-passes, formed-accepted}
 use Rattle.model.proofs.CoefficientFile.{coefficients-accepted, coefficients-continue, converted-reads}

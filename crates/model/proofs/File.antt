@@ -19,7 +19,7 @@ use lib.IntN.{natAbs}
 use lib.ListN.{length, getD}
 use Rattle.model.specs.Limits.{sideLimit, thicknessLimit, wedgeLimit, weightLimit}
 use Rattle.model.specs.Lists.{tabulate, firstOf}
-use Rattle.model.specs.Refusals.{Check, pass, fail, _orElse_, failIf}
+use Rattle.model.specs.Refusals.{Check, pass, fail, _orElse_}
 use Rattle.model.specs.declared.Steps.{Steps}
 use Rattle.model.specs.declared.Steps.the-variants as steps
 use Rattle.model.specs.Gauge.{Gauge, weightedGauge, factorsOf, Stepped}
@@ -31,7 +31,7 @@ use Rattle.model.specs.Weighing.{foundWeights, searchCheck, weightsFor, 
 use Rattle.model.specs.Result.{answered, refused, answerBy}
 use Rattle.model.specs.Bytes.{byteAt, wordAt, longAt, word, long, signedOf, unsignedOf}
 use Rattle.model.specs.Fields.{Field, body, fieldsEnd, fieldAt, field, bytesOf, Optional, absent, partsIn, present, givens, fieldsIn}
-use Rattle.model.specs.File.{cells, ringed, weightsFrom, thicknessesFrom, wedgeCheck, shapeField, ceilingField, thicknessesField, wedgeField, gauged, rowsOffset, columnsOffset, ceilingOffset, weightsOffset, thicknessesOffset, wedgeOffset, endOffset, cellsIn, ringIn, weightless, carriedIn, gaugedIn, numbersIn, gaugeIn, gaugeDominance, fieldsCheck, fileCheck, readFilm, weightBytes, bodies, fileOf, weightsCheck, thicknessesCheck, gaugeCheck, Bytes, Values, InPlace, factorsFrom, stepsCheck, factorsAt, stepsField, gaugedOptional, stepsOffset, stepsPart, stepsOf, gaugedParts, parts, gaugedFields, gaugedEnd}
+use Rattle.model.specs.File.{weightsFrom, thicknessesFrom, thicknessesField, wedgeField, gauged, rowsOffset, columnsOffset, ceilingOffset, weightsOffset, thicknessesOffset, wedgeOffset, endOffset, cellsIn, ringIn, weightless, carriedIn, gaugedIn, numbersIn, gaugeIn, gaugeDominance, fieldsCheck, fileCheck, readFilm, weightBytes, bodies, fileOf, gaugeCheck, Bytes, Values, InPlace, factorsFrom, stepsCheck, factorsAt, stepsField, gaugedOptional, stepsPart, stepsOf, gaugedParts, parts, gaugedFields, gaugedEnd}
 use Rattle.model.specs.FilmF.{bytesF, FileEdges}
 use Rattle.model.proofs.Lists.{tabulate-length, tabulate-at, tabulate-is, tabulate-below}
 use Rattle.model.proofs.Checks.{orElse-parts, pass-both, failFirst-same, refusal-of}

@@ -9,7 +9,7 @@ use lib.Dec.{ltb}
 use lib.IntN.{ℤ, natAbs}
 use Rattle.model.specs.Limits.{thicknessLimit, wedgeLimit, stepLimit}
 use Rattle.model.specs.Lists.{firstOf}
-use Rattle.model.specs.Refusals.{pass, _orElse_, failIf}
+use Rattle.model.specs.Refusals.{pass, failIf}
 use Rattle.model.specs.declared.Steps.{Steps}
 use Rattle.model.specs.declared.Steps.the-variants as steps
 use Rattle.model.specs.Gauge.{Gauge, factorsOf, Stepped}

@@ -10,7 +10,7 @@ use lib.IntN.{ℤ}
 use lib.ListN.{length, take, drop}
 use Rattle.model.specs.declared.Head.{Head}
 use Rattle.model.specs.declared.Steps.{Steps}
-use Rattle.model.specs.Refusals.{Check, pass, fail, _orElse_, failIf}
+use Rattle.model.specs.Refusals.{Check, pass, fail, failIf}
 use Rattle.model.specs.Gauge.{Gauge}
 use Rattle.model.specs.Checks.{shapeCheck}
 use Rattle.model.specs.Result.{Answer, answered, refused, answerBy, Gives}

@@ -20,8 +20,8 @@ use Rattle.model.specs.Weighing.{weightSearch, weightsFor, heldCheck}
 use Rattle.model.specs.Bytes.{wordAt}
 use Rattle.model.specs.Fields.{walk, present}
 use Rattle.model.specs.File.{gaugedOptional, weightsOffset, endOffset, cellsIn, ringIn, weightless, carriedIn, gaugedParts, gaugedIn, numbersIn, gaugeIn, gaugeDominance, fieldsCheck}
-use Rattle.model.specs.Result.{Answer, answered, refused}
-use Rattle.model.specs.FileCalls.{gaugeOf, headOf, LoadAnswer, film, laidOver}
+use Rattle.model.specs.Result.{answered, refused}
+use Rattle.model.specs.FileCalls.{gaugeOf, headOf, film, laidOver}
 use Rattle.model.proofs.Lists.{tabulate-length}
 use Rattle.model.proofs.Checks.{orElse-parts}
 use Rattle.model.proofs.Fields.{walk-passes, passes-end, end-above}

@@ -1,5 +1,5 @@
 -- The search: relaxations on the film that weights are searched on are the model's run, whatever weights and sources the film has; and what is found fits a weight.
-use mathlib.Core.Path.{_≡_, refl, sym, ap, _∙_, subst}
+use mathlib.Core.Path.{_≡_, sym, ap, _∙_, subst}
 use mathlib.Core.List.{List, []}
 use Prim.Native.Nat.{ℕ, _*_, _≤_, _<_}
 use native.Mathlib.Omega.{arith}
@@ -7,14 +7,14 @@ use lib.IntN.{ℤ, pos, negsuc, natAbs}
 use lib.ListN.{length, getD, take, replicate, length-replicate, getD-replicate}
 use Rattle.monotone.specs.Sweep.{begin, sweep as sweepOf}
 use Rattle.model.specs.Limits.{sourceLimit}
-use Rattle.model.specs.Refusals.{Check, pass, fail, checkOf}
+use Rattle.model.specs.Refusals.{Check, pass}
 use Rattle.model.specs.Film.{Film, filmOf, rule}
 use Rattle.model.specs.Coefficients.{formed}
 use Rattle.model.specs.Accepted.{Limited}
 use Rattle.model.specs.FileCalls.{gaugeOf}
-use Rattle.model.specs.Result.{Answer, answered, Result, unrefused, Gives}
+use Rattle.model.specs.Result.{Answer, Result, unrefused, Gives}
 use Rattle.model.specs.Run.{RunAnswer, ended, ordering}
-use Rattle.model.specs.Weighing.{weighing, searchBudget, weightSearch, foundWeights, searchCheck}
+use Rattle.model.specs.Weighing.{weighing, searchBudget, weightSearch, searchCheck}
 use Rattle.model.specs.declared.Head.{Head}
 use Rattle.model.specs.declared.Steps.{Steps}
 use Rattle.model.specs.declared.Tested.{Tested}

@@ -1,6 +1,6 @@
 -- `coefficient_reading::hand_over` meets its contract: what `tested` finds is refused, and where it passes the lists are laid over the buffers (`film-loaded`), which
 -- have room for them.
-use mathlib.Core.Path.{_≡_, sym, ap, _∙_}
+use mathlib.Core.Path.{sym, ap, _∙_}
 use denote.Ref.{now}
 use Rattle.model.specs.Refusals.{checkOf}
 use Rattle.model.specs.Film.{Film, filmOf}

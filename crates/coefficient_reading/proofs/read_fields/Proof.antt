@@ -1,6 +1,6 @@
 -- `coefficient_reading::read_fields` meets its contract: a file whose fields have passed has all its numbers (`fields-whole`), what is decoded of them stands there
 -- (`stands`), and `hand_over` tests it and writes it.
-use mathlib.Core.Path.{_≡_, refl, sym, ap, _∙_}
+use mathlib.Core.Path.{_≡_, sym, ap, _∙_}
 use mathlib.Core.List.{List}
 use Prim.Native.Nat.{ℕ, _+_, _*_, _≤_}
 use native.Mathlib.Omega.{arith}

@@ -1,5 +1,5 @@
 -- `reading::hand_over` meets its contract: what the weights gave is refused, and where they pass both lists are laid over the buffers, which have room for them.
-use mathlib.Core.Path.{_≡_, ap, _∙_}
+use mathlib.Core.Path.{ap}
 use Prim.Native.Nat.{_≤_}
 use native.Mathlib.Omega.{arith}
 use borrow.Author.Needs.{needs}

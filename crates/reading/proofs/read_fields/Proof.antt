@@ -1,6 +1,6 @@
 -- `reading::read_fields` meets its contract: a file whose fields have passed has all its numbers (`fields-whole`), and what is decoded of them is what the model
 -- reads.
-use mathlib.Core.Path.{_≡_, refl, sym, ap, _∙_}
+use mathlib.Core.Path.{_≡_, sym, ap, _∙_}
 use Prim.Native.Nat.{_+_, _-_, _*_, _≤_}
 use native.Mathlib.Omega.{arith}
 use borrow.Author.Needs.{needs, sfits-of}
@@ -12,7 +12,7 @@ use Rattle.model.specs.Limits.{sideLimit}
 use Rattle.model.specs.Lists.{tabulate}
 use Rattle.model.specs.Bytes.{byteAt, longAt, signedOf}
 use Rattle.model.specs.Fields.{partAt}
-use Rattle.model.specs.File.{stepsField, thicknessesOffset, wedgeOffset, endOffset, cellsIn, ringIn, carried, carriedIn, stepsOf, numbersIn}
+use Rattle.model.specs.File.{stepsField, thicknessesOffset, wedgeOffset, endOffset, ringIn, carried, carriedIn, stepsOf, numbersIn}
 use Rattle.model.proofs.Sides.{cells-low}
 use Rattle.model.proofs.Opening.{carried-low}
 use Rattle.forming.proofs.Cell.{ring-low}

@@ -1,7 +1,4 @@
 -- `weighing::outcome` meets its contract, answer by answer.
-use mathlib.Core.Path.{sym, ap}
-use Rattle.model.specs.Run.{runAnswerOf}
-use Rattle.weighing.specs.Searches.{searchedBy}
 use borrow.Author.Needs.{needs}
 use Rattle.weighing.proofs.outcome.Statement.{statement}
 use Rattle.weighing.proofs.outcome.Tie as tie

@@ -1,5 +1,5 @@
 -- `weighing::put_found` meets its contract: places filled one by one (`Filled`) hold the field's numbers in the end (`fill-copy`), and there are no others.
-use mathlib.Core.Path.{_≡_, refl, sym, ap, _∙_}
+use mathlib.Core.Path.{_≡_, sym, _∙_}
 use Prim.Native.Nat.{_-_, _≤_}
 use native.Mathlib.Omega.{arith}
 use borrow.Author.Needs.{needs}

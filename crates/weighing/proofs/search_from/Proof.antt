@@ -1,6 +1,6 @@
 -- `weighing::search_from` meets its contract: the relaxations are the model's search (`run-is`), and where it is Done the field's numbers fit weights (`fits`).
 use mathlib.Core.Path.{_≡_, sym, ap, _∙_}
-use Prim.Native.Nat.{ℕ, _*_}
+use Prim.Native.Nat.{ℕ}
 use native.Mathlib.Omega.{arith}
 use borrow.Author.Needs.{needs}
 use denote.Ref.{now}
