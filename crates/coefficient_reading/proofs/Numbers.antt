@@ -20,6 +20,7 @@ use Rattle.model.specs.File.{weightsOffset, cellsIn, weightless, carriedIn, fie
 use Rattle.model.specs.CoefficientFile.{coefficientFields, diagonalsOffset, rightsOffset, upsOffset, sourcesOffset, longsAt, signedQuadsAt, coefficientsIn, filmIn, coefficientFieldsIn}
 use Rattle.model.specs.CoefficientCalls.{filmHead, LoadsFilm}
 use Rattle.model.specs.Result.{Answer, answered, refused}
+use Rattle.model.proofs.Checks.{refused-passes}
 use Rattle.model.proofs.Lists.{tabulate-length}
 use Rattle.model.proofs.Fields.{Passes, fields-pass, passes-end}
 use Rattle.model.proofs.Opening.{shape-passes, carried-low, carries-all}
@@ -130,7 +131,7 @@ module _ (l : List ℕ) {h : Head} {d r u : List ℕ} {s : List ℤ} (S : Stands
   weighs-refused f e =
       record {
         finds = e ∙ ap (λ c. c orElse heldCheck (weightless l) (coefficientsIn l)) (sym f);
-        weights-are = λ q. let z : _≡_ {A = ℕ} 0 1 = cc in absurd (omega arith);
+        weights-are = λ q. refused-passes (sym e ∙ q);
       }
 
 -- ---- what the reader gives of a film, by what its tests find

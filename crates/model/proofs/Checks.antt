@@ -18,7 +18,7 @@ use Rattle.model.specs.Integers.{atMostZero}
 use Rattle.model.specs.Refusals.{Check, pass, fail, _orElse_, failIf, failFirst}
 use Rattle.model.specs.Film.{Film, sizeOf, rowOf, columnOf, diagonalAt, rightAt, upAt, weightAt, pullOf, dominance, systemOf, rule}
 use Rattle.model.specs.Checks.{outside, shapeCheck, ceilingCheck, filmFits, badCoefficient, zeroWeight, notDominant, sizeCheck, coefficientCheck, weightCheck, dominanceCheck, startCheck, numericCheck, fieldCheck}
-use Rattle.model.specs.Result.{answerBy, refused}
+use Rattle.model.specs.Result.{answered, refused, answerBy}
 use Rattle.model.specs.Accepted.{Sized, LimitedCell, Limited, Accepted}
 use Rattle.model.proofs.Lists.{first-miss, first-same}
 use Rattle.model.proofs.Film.{slack-atMostZero, bounded-cells}
@@ -46,7 +46,16 @@ orElse-parts (fail number place) y e = (e, cc)
 pub pass-both : {x y : Check} → x ≡ pass → y ≡ pass → (x orElse y) ≡ pass
 pass-both e f = rw (e, f)
 
--- a refused answer is what its tests failed with
+-- a refusal is no pass
+pub refused-passes : {X : Type 0} {number place : ℕ} → fail number place ≡ pass → X
+refused-passes e = let z : _≡_ {A = ℕ} 0 1 = cc in absurd (omega arith)
+
+-- an answer that is no refusal comes from tests that passed
+pub answer-passed : {A : Type 0} (c : Check) (b : A) {a : A} → answered a ≡ answerBy c b → (c ≡ pass) × (a ≡ b)
+answer-passed pass b e = (refl, cc)
+answer-passed (fail number place) b e = let z : _≡_ {A = ℕ} 0 1 = cc in absurd (omega arith)
+
+-- a refused one is what they failed with
 pub refusal-of : {A : Type 0} (c : Check) (a : A) {number place : ℕ} → answerBy c a ≡ refused number place → c ≡ fail number place
 refusal-of pass a e = let z : _≡_ {A = ℕ} 0 1 = cc in absurd (omega arith)
 refusal-of (fail n k) a e = cc

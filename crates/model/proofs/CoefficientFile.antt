@@ -25,7 +25,7 @@ use Rattle.model.specs.Fields.{Field, field, fieldsEnd, bytesOf}
 use Rattle.model.specs.File.{rowsOffset, columnsOffset, ceilingOffset, weightsOffset, cellsIn, weightless, fieldsCheck, weightBytes, weightsCheck, gaugeCheck, Bytes, Values, InPlace}
 use Rattle.model.specs.CoefficientFile.{diagonalsField, rightsField, upsField, sourcesField, coefficientFields, diagonalsOffset, rightsOffset, upsOffset, sourcesOffset, coefficientEnd, longsAt, signedQuadsAt, coefficientsIn, coefficientFieldsIn, coefficientFileCheck, readCoefficients, sourceBytes, coefficientBodies, coefficientFileOf, writerCheck, CoefficientValues}
 use Rattle.model.proofs.Lists.{tabulate-length, tabulate-below}
-use Rattle.model.proofs.Checks.{within, orElse-parts, pass-both, failIf-pass, failFirst-pass, fits-lengths, coefficient-passes, refusal-of}
+use Rattle.model.proofs.Checks.{within, orElse-parts, pass-both, failIf-pass, failFirst-pass, fits-lengths, coefficient-passes, answer-passed, refusal-of}
 use Rattle.model.proofs.Codes.{bytes-nil, bytes-cons, word-code, long-code, signed-quad-code, within-abs, listed-length, listed-writes, listed-bytes}
 use Rattle.model.proofs.Fields.{Passes, fields-pass, pass-fields, bodiesIn, whole-file, begins-whole, Fit, Laid, laid, bytes-length}
 use Rattle.model.proofs.Opening.{shape-passes, has-weights, Continues, continues, list-inside, Opened, opening-reads}
@@ -401,11 +401,9 @@ record ReadAs (none : Bool) (l : List ℕ) (f : Film) : Type 0 where
   same : filmBy none l ≡ f
 
 read-by : (none : Bool) (l : List ℕ) (f : Film) → answerBy (checkBy none l) (filmBy none l) ≡ answered f → ReadAs none l f
-read-by none l f e = go (checkBy none l) refl e
-  where
-    go : (c : Check) → checkBy none l ≡ c → answerBy c (filmBy none l) ≡ answered f → ReadAs none l f
-    go pass p e = record { passed = passed-by none l p; same = cc }
-    go (fail number place) p e = let z : _≡_ {A = ℕ} 0 1 = cc in absurd (omega arith)
+read-by none l f e =
+    let a = answer-passed (checkBy none l) (filmBy none l) (sym e) in
+    record { passed = passed-by none l (a .0); same = sym (a .1) }
 
 read-as : (l : List ℕ) (f : Film) → readCoefficients l ≡ answered f → ReadAs (weightless l) l f
 unfolding coefficientFileCheck

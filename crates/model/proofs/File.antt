@@ -34,7 +34,7 @@ use Rattle.model.specs.Fields.{Field, body, fieldsEnd, fieldAt, field, b
 use Rattle.model.specs.File.{weightsFrom, thicknessesFrom, thicknessesField, wedgeField, gauged, rowsOffset, columnsOffset, ceilingOffset, weightsOffset, thicknessesOffset, wedgeOffset, endOffset, cellsIn, ringIn, weightless, carriedIn, gaugedIn, numbersIn, gaugeIn, gaugeDominance, fieldsCheck, fileCheck, readFilm, weightBytes, bodies, fileOf, gaugeCheck, Bytes, Values, InPlace, factorsFrom, stepsCheck, factorsAt, stepsField, gaugedOptional, stepsPart, stepsOf, gaugedParts, parts, gaugedFields, gaugedEnd}
 use Rattle.model.specs.FilmF.{bytesF, FileEdges}
 use Rattle.model.proofs.Lists.{tabulate-length, tabulate-at, tabulate-is, tabulate-below}
-use Rattle.model.proofs.Checks.{orElse-parts, pass-both, failFirst-same, refusal-of}
+use Rattle.model.proofs.Checks.{orElse-parts, pass-both, failFirst-same, answer-passed, refusal-of}
 use Rattle.model.proofs.Codes.{bytes-nil, bytes-cons, bytes-append, word-code, long-code, signed-long-code, within-abs, listed-length, listed-writes, listed-bytes}
 use Rattle.model.proofs.Fields.{Passes, fields-pass, pass-fields, bodiesIn, whole-file, begins-whole, Fit, Laid, laid, bytes-length}
 use Rattle.model.proofs.Optional.{partIf, bodies-append, parts-bodies, parts-written}
@@ -372,11 +372,9 @@ record ReadAs (none : Bool) (l : List ℕ) (g : Gauge) : Type 0 where
   same : gaugeBy none l ≡ g
 
 read-by : (none : Bool) (l : List ℕ) (g : Gauge) → answerBy (checkBy none l) (gaugeBy none l) ≡ answered g → ReadAs none l g
-read-by none l g e = go (checkBy none l) refl e
-  where
-    go : (c : Check) → checkBy none l ≡ c → answerBy c (gaugeBy none l) ≡ answered g → ReadAs none l g
-    go pass f e = record { passed = passed-by none l f; same = cc }
-    go (fail number place) f e = let z : _≡_ {A = ℕ} 0 1 = cc in absurd (omega arith)
+read-by none l g e =
+    let a = answer-passed (checkBy none l) (gaugeBy none l) (sym e) in
+    record { passed = passed-by none l (a .0); same = sym (a .1) }
 
 read-as : (l : List ℕ) (g : Gauge) → readFilm l ≡ answered g → ReadAs (weightless l) l g
 unfolding fileCheck

@@ -17,13 +17,9 @@ use Rattle.model.specs.Result.{Answer, answered, refused, answerBy, Give
 use Rattle.model.specs.File.{cells, ringed, rowsOffset, columnsOffset, weightless, gaugeIn, fileCheck, readFilm, gaugedEnd, fileOf, gaugeCheck, Bytes, Values, InPlace}
 use Rattle.model.specs.FileCalls.{gaugeOf, headOf, saveCheck, saveCall, LoadAnswer, film, loadAnswer, loadCheck, laidOver, Loads, ReadsBack, used}
 use Rattle.model.proofs.Checks.{orElse-parts, failIf-pass}
+pub use Rattle.model.proofs.Checks.{answer-passed}
 use Rattle.model.proofs.Opening.{placed-length}
 use Rattle.model.proofs.File.{file-length, written-reads, read-writes, read-values, weights-placed, placed-reads}
-
--- an answer that is no refusal comes from tests that passed
-pub answer-passed : {A : Type 0} (c : Check) (b : A) {a : A} → answered a ≡ answerBy c b → (c ≡ pass) × (a ≡ b)
-answer-passed pass b e = (refl, cc)
-answer-passed (fail number place) b e = let z : _≡_ {A = ℕ} 0 1 = cc in absurd (omega arith)
 
 -- the film's own tests, from those of the writer
 pub save-gauge : (g : Gauge) (fits : Bool) → gaugeCheck g fits ≡ pass → gaugeCheck g true ≡ pass

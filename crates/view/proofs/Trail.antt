@@ -15,6 +15,7 @@ use Rattle.model.specs.Bytes.{byteAt}
 use Rattle.model.specs.Fields.{Field, behind, fieldsEnd, walk, past, partsIn, present}
 use Rattle.model.specs.File.{shapeField, ceilingField, weightsField, thicknessesField, wedgeField, gauged, gaugedOptional, carried}
 use Rattle.model.specs.CoefficientFile.{diagonalsField, rightsField, upsField, sourcesField}
+use Rattle.model.proofs.Checks.{refused-passes}
 use Rattle.model.proofs.Optional.{partIf, Rising}
 use Rattle.fields.specs.Tags.{fieldFor, testOf, Room}
 use Rattle.fields.proofs.Tags.{size-low}
@@ -25,9 +26,6 @@ use Rattle.view.specs.Walks.{Last, kindOf, nextOptional, nextTag, tagAft
 goes-with : (c : Check) (last tag byte k : ℕ) → k ≡ tagAfter c last tag byte → eqb k 0 ≡ false → (c ≡ pass) × (k ≡ nextTag last tag byte)
 goes-with pass last tag byte k e f = (refl, e)
 goes-with (fail number place) last tag byte k e f = absurd (eqb-false k 0 f e)
-
-refused-passes : {X : Type 0} {number place : ℕ} → fail number place ≡ pass → X
-refused-passes e = let z : _≡_ {A = ℕ} 0 1 = cc in absurd (omega arith)
 
 module _ (l : List ℕ) (n t last : ℕ) where
   -- the tag of the field behind that of a tag, which ends at an offset

@@ -1,6 +1,5 @@
 -- `weighing::search_from` meets its contract: the relaxations are the model's search (`run-is`), and where it is Done the field's numbers fit weights (`fits`).
 use mathlib.Core.Path.{_≡_, sym, ap, _∙_}
-use Prim.Native.Nat.{ℕ}
 use native.Mathlib.Omega.{arith}
 use borrow.Author.Needs.{needs}
 use denote.Ref.{now}
@@ -10,6 +9,7 @@ use Rattle.model.specs.Film.{Film}
 use Rattle.model.specs.Result.{unrefused, Gives}
 use Rattle.model.specs.Run.{runAnswerOf}
 use Rattle.model.specs.Weighing.{weightSearch, searchCheck}
+use Rattle.model.proofs.Checks.{refused-passes}
 use Rattle.refusals.proofs.Chain.{passed}
 use Rattle.weighing.proofs.Searches.{bare, weighing-limited, run-is, finds, fits}
 use Rattle.weighing.proofs.search_from.Statement.{statement}
@@ -80,7 +80,7 @@ returns-2 c =
     let o = c .before .before .before in
     record {
       finds = sym (ap checkOf (c .before .r .given .1)) ∙ found o;
-      weights-are = λ p. let z : _≡_ {A = ℕ} 0 1 = cc in absurd (omega arith);
+      weights-are = refused-passes;
     }
 
 pub search-from-spec : {M : Type 1} → statement M
