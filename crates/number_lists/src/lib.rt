@@ -15,7 +15,7 @@ pub fn longs_in(file: &[u8], at: usize, n: usize, longs: &mut [u32])
     let mut i = 0;
     while i < n {
         let from = at + 4 * i;
-        longs[i] = quads::first_long(&file[from..]);
+        longs[i] = words::numbers::first_long(&file[from..]);
         i += 1;
     }
 }

@@ -1,24 +1,10 @@
-// Numbers of 4 and 8 bytes, big-endian, at a slice's start, which has their bytes; those of 8 bytes signed, in two's complement; and
-// written into a lent slice. Internal: the readers and writers of lists of numbers call it.
+// Numbers of 8 bytes, big-endian, at a slice's start, which has their bytes, signed, in two's complement; and written into a lent slice.
+// Internal: the readers and writers of lists of numbers call it.
 ghost use mathlib.Core.Path.{_≡_};
 ghost use Prim.Native.Nat.{_+_, _*_, _≤_};
 ghost use lib.ListN.{length};
 ghost use lib.Seq.{sets};
-ghost use Rattle.model.specs.Bytes.{longAt, quadAt, quad, signedQuad, unsignedQuad};
-
-// A number of four bytes. In one sum: of this form the compiler makes one read and one exchange of the bytes.
-fn long_of(a: u8, b: u8, c: u8, d: u8) -> u32
-    ensures { λ r. ⌜ r ≡ (a * 256 + b) * 65536 + (c * 256 + d) ⌝ }
-{
-    (a as u32) * 16777216 + (b as u32) * 65536 + (c as u32) * 256 + (d as u32)
-}
-
-pub fn first_long(bytes: &[u8]) -> u32
-    requires { ⌜ 4 ≤ length (now bytes) ⌝ }
-    ensures { λ r. ⌜ r ≡ longAt (now (bytes .entry)) 0 ⌝ }
-{
-    long_of(bytes[0], bytes[1], bytes[2], bytes[3])
-}
+ghost use Rattle.model.specs.Bytes.{quadAt, quad, signedQuad, unsignedQuad};
 
 // A number of two longs.
 fn quad_of(high: u32, low: u32) -> u64
@@ -32,7 +18,10 @@ pub fn first_quad(bytes: &[u8]) -> u64
     ensures { λ r. ⌜ r ≡ quadAt (now (bytes .entry)) 0 ⌝ }
 {
     let half = 4;
-    quad_of(first_long(bytes), first_long(&bytes[half..]))
+    quad_of(
+        words::numbers::first_long(bytes),
+        words::numbers::first_long(&bytes[half..]),
+    )
 }
 
 // The number that 64 bits stand for, and back.

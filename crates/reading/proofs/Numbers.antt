@@ -8,11 +8,14 @@ use lib.IntN.{ℤ, pos}
 use lib.ListN.{length}
 use lib.Seq.{sets}
 use Rattle.model.specs.Lists.{tabulate}
+use Rattle.model.specs.declared.Factors.{Factors}
 use Rattle.model.specs.declared.Head.{Head}
 use Rattle.model.specs.declared.Steps.{Steps}
+use Rattle.model.specs.declared.Steps.the-variants.{Absent, Given}
 use Rattle.model.specs.declared.Tested.{Tested}
 use Rattle.model.specs.Refusals.{Check, pass, fail, checkOf}
 use Rattle.model.specs.Gauge.{Gauge, factorsOf, Stepped}
+use Rattle.model.specs.Film.{Film}
 use Rattle.model.specs.Coefficients.{formed}
 use Rattle.model.specs.Checks.{dominanceCheck}
 use Rattle.model.specs.Accepted.{Limited}
@@ -91,24 +94,32 @@ module _ (l : List ℕ) {h : Head} {t : List ℕ} {s : Steps} (D : Decoded l h t
   pub weights-long : {n : ℕ} → n ≡ h .rows * h .columns → weightless l ≡ false → weightsOffset + 2 * n ≤ length l
   weights-long e c = omega (arith, e, cells-are, carries-all l c, fields-whole l (D .fields) .long)
 
-  -- .. and its coefficients are within their limits, without sources too
-  pub limited : (w : List ℕ) × Limited (formed (gaugeOf h w t (pos 0) s))
-  limited =
-      let w = ones (cellsIn l) in
-      let n = numbers-pass l (carriedIn l) w (walk-passes (gaugedIn l) l 0 (orElse-parts (walk (gaugedIn l) l 0) _ (D .fields) .0)) in
-      let g = gaugeOf (headOf (numbersIn l)) w (numbersIn l .thicknesses) (pos 0) (numbersIn l .steps) in
-      let passed : NumbersPassed g = record { shape = n .shape; ceiling = n .ceiling; thicknesses = n .thicknesses; wedge = refl; steps = n .steps } in
-      (w, subst (λ (x : Gauge). Limited (formed x)) (sym (with w (pos 0))) (formed-limited g passed (tabulate-length _ _)))
+  -- .. and its coefficients, of which the steps give no more than their factors, are within their limits, without sources too
+  of-factors : (steps : Steps) (weights : List ℕ) → formed (gaugeOf h weights t (pos 0) (Given (factorsOf steps))) ≡ formed (gaugeOf h weights t (pos 0) steps)
+  of-factors Absent weights = refl
+  of-factors (Given f) weights = refl
 
-  -- weights that are found: the search looks at neither weights nor wedge number
-  pub weighs-found : {r : Tested} {exit : List ℕ} → weightless l ≡ true → Searches (formed (gaugeOf h [] t (pos 0) s)) r exit → Weighs l r exit
-  unfolding weightSearch
-  weighs-found {r} {exit} c S =
-      let T = subst (λ (x : Gauge). Searches (formed x) r exit) (with [] (pos 0)) S in
-      record {
-        finds = T .finds ∙ ap (λ none. heldCheck none (formed (numbersIn l))) (sym c);
-        weights-are = λ p. T .weights-are p ∙ ap (λ none. weightsFor none (formed (numbersIn l))) (sym c);
-      }
+  module _ {f : Factors} (factors : factorsOf s ≡ f) where
+    by-factors : (weights : List ℕ) → formed (gaugeOf h weights t (pos 0) (Given f)) ≡ formed (gaugeOf (headOf (numbersIn l)) weights (numbersIn l .thicknesses) (pos 0) (numbersIn l .steps))
+    by-factors weights = ap (λ x. formed (gaugeOf h weights t (pos 0) (Given x))) (sym factors) ∙ of-factors s weights ∙ ap formed (with weights (pos 0))
+
+    pub limited : (w : List ℕ) × Limited (formed (gaugeOf h w t (pos 0) (Given f)))
+    limited =
+        let w = ones (cellsIn l) in
+        let n = numbers-pass l (carriedIn l) w (walk-passes (gaugedIn l) l 0 (orElse-parts (walk (gaugedIn l) l 0) _ (D .fields) .0)) in
+        let g = gaugeOf (headOf (numbersIn l)) w (numbersIn l .thicknesses) (pos 0) (numbersIn l .steps) in
+        let passed : NumbersPassed g = record { shape = n .shape; ceiling = n .ceiling; thicknesses = n .thicknesses; wedge = refl; steps = n .steps } in
+        (w, subst Limited (sym (by-factors w)) (formed-limited g passed (tabulate-length _ _)))
+
+    -- weights that are found: the search looks at neither weights nor wedge number
+    pub weighs-found : {r : Tested} {exit : List ℕ} → weightless l ≡ true → Searches (formed (gaugeOf h [] t (pos 0) (Given f))) r exit → Weighs l r exit
+    unfolding weightSearch
+    weighs-found {r} {exit} c S =
+        let T = subst (λ (x : Film). Searches x r exit) (by-factors []) S in
+        record {
+          finds = T .finds ∙ ap (λ none. heldCheck none (formed (numbersIn l))) (sym c);
+          weights-are = λ p. T .weights-are p ∙ ap (λ none. weightsFor none (formed (numbersIn l))) (sym c);
+        }
 
   -- weights that stand in the file
   pub weighs-standing : {r : Tested} {exit : List ℕ} → weightless l ≡ false → exit ≡ tabulate (cellsIn l) (λ i. wordAt l (weightsOffset + 2 * i))

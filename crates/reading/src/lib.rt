@@ -14,6 +14,7 @@ ghost use Rattle.model.specs.Weighing.{heldCheck};
 ghost use Rattle.model.specs.File.{stepsField, weightsOffset, stepsOf, weightless, gaugedIn, numbersIn, gaugeIn, fieldsCheck};
 ghost use Rattle.model.specs.FileCalls.{headOf, loadAnswerOf};
 ghost use Rattle.reading.specs.Reading.{Decoded, Weighs, LoadsBy};
+use model::Factors;
 use model::Head;
 use model::Loaded;
 use model::Steps;
@@ -54,13 +55,25 @@ fn steps_in(file: &[u8], at: usize) -> Steps
     Steps::Absent
 }
 
-// The film's weights, into a table of as many: those that stand in the file, and whether 9 passes; or those that are found, and whether they are.
+// The film's weights, into a table of as many: those that stand in the file, and whether 9 passes; or those that are found, and whether they are. Called in two
+// places, the search is not inlined: its tables, 34 kB, are then no part of the stack of every reading.
 fn weighed(file: &[u8], head: Head, ring: &[u8], steps: Steps, weights: &mut [u16]) -> Tested
     requires { ⌜ Decoded (now file) head (now ring) steps × (length (now weights) ≡ head .rows * head .columns) ⌝ }
     ensures { λ r. ⌜ Weighs (now (file .entry)) r (now (weights .exit)) ⌝ }
 {
     if headers::weightless(file) {
-        return weighing::search_gauged(head, ring, steps, weights);
+        match steps {
+            Steps::Absent => {
+                let plain = Factors {
+                    along: 1,
+                    across: 1,
+                };
+                return weighing::search_gauged(head, ring, plain, weights);
+            }
+            Steps::Given(factors) => {
+                return weighing::search_gauged(head, ring, factors, weights);
+            }
+        }
     }
     let n = weights.len();
     weights_in(file, n, weights);

@@ -9,15 +9,17 @@ ghost use Prim.Native.Nat.{ℕ, _*_, _≤_, _<_};
 ghost use lib.IntN.{pos, negsuc};
 ghost use lib.ListN.{length, getD, replicate};
 ghost use Rattle.model.specs.Refusals.{checkOf};
-ghost use Rattle.model.specs.Gauge.{factorsOf, Stepped};
+ghost use Rattle.model.specs.Gauge.{Stepped};
 ghost use Rattle.model.specs.Film.{filmOf};
 ghost use Rattle.model.specs.Coefficients.{formed};
 ghost use Rattle.model.specs.Accepted.{Limited};
 ghost use Rattle.model.specs.FileCalls.{gaugeOf};
 ghost use Rattle.model.specs.Run.{runAnswerOf};
+ghost use Rattle.model.specs.declared.Steps.the-variants.{Given};
 ghost use Rattle.forming.specs.Cell.{Ringed};
 ghost use Rattle.weighing.specs.Searches.{Searchable, searchedBy, Searches};
 use fault::Fault;
+use model::Factors;
 use model::Head;
 use model::Ran;
 use model::Refusal;
@@ -132,10 +134,15 @@ pub fn search(
 }
 
 // The same of a gauged film, whose coefficients are formed into tables of its own. Its wedge number does not count: the search has other sources.
-pub fn search_gauged(head: Head, thicknesses: &[u8], steps: Steps, weights: &mut [u16]) -> Tested
-    requires { ⌜ Ringed (head .rows) (head .columns) (now thicknesses) × Stepped (factorsOf steps) × (length (now weights) ≡ head .rows * head .columns) ⌝ }
-    requires { ⌜ ((w : List ℕ) × Limited (formed (gaugeOf head w (now thicknesses) (pos 0) steps))) ⌝ }
-    ensures { λ r. ⌜ Searches (formed (gaugeOf head [] (now (thicknesses .entry)) (pos 0) steps)) r (now (weights .exit)) ⌝ }
+pub fn search_gauged(
+    head: Head,
+    thicknesses: &[u8],
+    factors: Factors,
+    weights: &mut [u16],
+) -> Tested
+    requires { ⌜ Ringed (head .rows) (head .columns) (now thicknesses) × Stepped factors × (length (now weights) ≡ head .rows * head .columns) ⌝ }
+    requires { ⌜ ((w : List ℕ) × Limited (formed (gaugeOf head w (now thicknesses) (pos 0) (Given factors)))) ⌝ }
+    ensures { λ r. ⌜ Searches (formed (gaugeOf head [] (now (thicknesses .entry)) (pos 0) (Given factors))) r (now (weights .exit)) ⌝ }
 {
     let n = weights.len();
     let mut diagonals = [0u32; 1024];
@@ -146,7 +153,7 @@ pub fn search_gauged(head: Head, thicknesses: &[u8], steps: Steps, weights: &mut
         head,
         thicknesses,
         0,
-        steps,
+        Steps::Given(factors),
         &mut diagonals,
         &mut rights,
         &mut ups,

@@ -29,10 +29,29 @@ pub fn word_at(file: &[u8], at: usize) -> u16
     word_of(byte_at(file, at), byte_at(file, at + 1))
 }
 
+// A number of four bytes. In one sum: of this form the compiler makes one read and one exchange of the bytes.
+fn long_of(a: u8, b: u8, c: u8, d: u8) -> u32
+    ensures { λ r. ⌜ r ≡ (a * 256 + b) * 65536 + (c * 256 + d) ⌝ }
+{
+    (a as u32) * 16777216 + (b as u32) * 65536 + (c as u32) * 256 + (d as u32)
+}
+
+// The number at a slice's start, which has its four bytes.
+pub fn first_long(bytes: &[u8]) -> u32
+    requires { ⌜ 4 ≤ length (now bytes) ⌝ }
+    ensures { λ r. ⌜ r ≡ longAt (now (bytes .entry)) 0 ⌝ }
+{
+    long_of(bytes[0], bytes[1], bytes[2], bytes[3])
+}
+
+// Read at once where its four bytes are there.
 pub fn long_at(file: &[u8], at: usize) -> u32
     requires { ⌜ at ≤ 6000000 ⌝ }
     ensures { λ r. ⌜ r ≡ longAt (now (file .entry)) at ⌝ }
 {
+    if at + 4 <= file.len() {
+        return first_long(&file[at..]);
+    }
     (word_at(file, at) as u32) * 65536 + (word_at(file, at + 2) as u32)
 }
 

@@ -6,6 +6,7 @@ use borrow.Author.Needs.{needs}
 use denote.Ref.{now}
 use lib.ListN.{length}
 use lib.Seq.{length-take-le}
+use Rattle.model.specs.declared.Steps.the-variants.{Given}
 use Rattle.model.proofs.Sides.{cells-low}
 use Rattle.weighing.proofs.Searches.{formed-searchable, searches-formed}
 use Rattle.weighing.proofs.search_gauged.Statement.{statement}
@@ -71,7 +72,7 @@ search-requires : tie.Need-search-requires
 search-requires c κs =
     let f = back (c .before .before .before .before) in
     let s = start f in
-    (formed-searchable (s .args .head) (now (s .args .thicknesses)) (s .args .steps) (s .pre .0 .2) (f .form .ensures) (s .pre .1), s .pre .0 .2)
+    (formed-searchable (s .args .head) (now (s .args .thicknesses)) (Given (s .args .factors)) (s .pre .0 .2) (f .form .ensures) (s .pre .1), s .pre .0 .2)
 
 same-length : tie.Need-same-length
 same-length c = search needs
@@ -81,7 +82,7 @@ returns c =
     let p = c .before .before in
     let f = back (p .before .before .before .before .before) in
     let s = start f in
-    searches-formed (s .args .head) (now (s .args .thicknesses)) (s .args .steps) (s .pre .0 .2) (f .form .ensures) (p .search .ensures)
+    searches-formed (s .args .head) (now (s .args .thicknesses)) (Given (s .args .factors)) (s .pre .0 .2) (f .form .ensures) (p .search .ensures)
 
 pub search-gauged-spec : {M : Type 1} → statement M
 search-gauged-spec =
