@@ -1,6 +1,6 @@
 #!/usr/bin/env python3
-"""Spells the repository's own words of specs/ and proofs/ as Rattle's style has it: definitions, lemmas, fields and constructors in snake case;
-in a lemma's name a dash is left only where it joins the names of two definitions.
+"""Spells the repository's own words of specs/ and proofs/ as Rattle's style has it: definitions, lemmas, fields and constructors in snake case,
+with no dash: Rattle makes names with dashes itself, from those of src/.
 
 usage: respell.py [--check] [ROOT]      (run once, after port.py; --check writes nothing and shows the table)
 
@@ -44,7 +44,7 @@ def read(root):
 
 
 def gather(root, texts):
-    own, words, foreign, made, alias = {}, set(), set(), {}, {}
+    own, words, foreign, made, alias, fields = {}, set(), set(), {}, {}, set()
     crates = set(os.listdir(os.path.join(root, "crates")))
     for p, t in texts.items():
         b = bare(t)
@@ -68,22 +68,20 @@ def gather(root, texts):
                 own.setdefault(name, set()).add(p)
                 if "/proofs/" not in p:
                     words.add(name)
+        for block in re.findall(rf"^[ \t]*(?:pub )?(?:record|data) .*?\bwhere\n(.*?)(?=^\S|\Z)", b, re.M | re.S):
+            fields.update(re.findall(rf"^[ \t]+(?:pub )?({WORD})\s+:", block, re.M))
         for name in BOUND.findall(b):
             own.setdefault(name, set()).add(p)
         for name in re.findall(rf"^[ \t]*(?:pub )?(?:record|data)\s+({WORD})", b, re.M):
             words.add(name)
-    return own, words, foreign, made, alias
+    return own, words, foreign, made, alias, fields
 
 
 def spell(name, words):
     parts = name.split("-")
     if "" in parts or not all(re.match(r"[\w'₀-₉]+$", x) for x in parts):
         return name
-    out = snake(parts[0])
-    for a, b in zip(parts, parts[1:]):
-        join = "-" if (a in words and b in words) or re.match(r"[A-Z]", b) and a in words else "_"
-        out += join + snake(b)
-    return out
+    return "_".join(snake(x) for x in parts)
 
 
 def main(argv):
@@ -91,7 +89,7 @@ def main(argv):
     argv = [a for a in argv if a != "--check"]
     root = argv[0] if argv else "."
     texts = read(root)
-    own, words, foreign, made, alias = gather(root, texts)
+    own, words, foreign, made, alias, fields = gather(root, texts)
     std = {w for w in foreign if re.match(WORD + "$", w)}
     table = {}
     seen = set()
@@ -138,7 +136,7 @@ def main(argv):
             quiet = b[at] == " "
             if quiet and "-" in n and not (t[at - 1] in "`#" or re.match(r"[`}]", t[m.end():m.end() + 1])):
                 return n
-            if m.group("dot") and "-" in n:
+            if m.group("dot") and "-" in n and n not in fields:
                 head = re.search(r"[\w'.]*$", t[: at - 1]).group(0)
                 if not (head in alias[p] or head.startswith("Rattle.")):
                     return n

@@ -37,11 +37,11 @@ answered_0 (fail number place) a n e = absurd (omega (arith, n.some number place
 module _ (f : Film) (entry : List ℕ) {exit : List ℕ} where
   pub run_step : (budget order : ℕ) (on : Bool) {Tells : Answer RunAnswer → Type 0} → Leaves (run_call f budget order on entry) Tells exit
       → (a : Answer RunAnswer) × Tells a × Kept f entry (ran budget order on a exit)
-  run_step budget order on L = ((run_call f budget order on entry).answer, L.told, record { answer-is = refl; lent_is = L.lent_is })
+  run_step budget order on L = ((run_call f budget order on entry).answer, L.told, record { answer_is = refl; lent_is = L.lent_is })
 
   pub propose_step : (line : ℕ) (proposal : List ℕ) {Tells : Answer ProposalAnswer → Type 0} → Leaves (propose_call f line proposal entry) Tells exit
       → (a : Answer ProposalAnswer) × Tells a × Kept f entry (proposed line proposal a exit)
-  propose_step line proposal L = ((propose_call f line proposal entry).answer, L.told, record { answer-is = refl; lent_is = L.lent_is })
+  propose_step line proposal L = ((propose_call f line proposal entry).answer, L.told, record { answer_is = refl; lent_is = L.lent_is })
 
   -- where 0 was returned the call answered, and its result is written as numbers
   pub run_returned_0 : (budget order : ℕ) (on : Bool) {result result' : List ℕ} {cell cell' place place' : ℕ}
@@ -49,7 +49,7 @@ module _ (f : Film) (entry : List ℕ) {exit : List ℕ} where
       → (a : RunAnswer) × (result' ≡ run_numbers (answered a) result) × Kept f entry (ran budget order on (answered a) exit)
   run_returned_0 budget order on {result} L =
       let e = answered_0 (run_check f entry order) (run f budget order on entry).answer (run_numbered f entry order) L.told.told.number_is in
-      ((run f budget order on entry).answer, L.told.result_is ∙ ap (λ a. run_numbers a result) e, record { answer-is = sym e; lent_is = L.lent_is })
+      ((run f budget order on entry).answer, L.told.result_is ∙ ap (λ a. run_numbers a result) e, record { answer_is = sym e; lent_is = L.lent_is })
 
   pub propose_returned_0 : (line : ℕ) (proposal : List ℕ) {result result' : List ℕ} {place place' : ℕ}
       → Leaves (propose_call f line proposal entry) (λ a. ProposeTold a result place 0 result' place') exit
@@ -57,13 +57,13 @@ module _ (f : Film) (entry : List ℕ) {exit : List ℕ} where
   propose_returned_0 line proposal {result} L =
       let made = (propose f (line_start f line) proposal entry).answer in
       let e = answered_0 (row_check f entry proposal line) made (row_numbered f entry proposal line) L.told.told.number_is in
-      (made, L.told.result_is ∙ ap (λ a. propose_numbers a result) e, record { answer-is = sym e; lent_is = L.lent_is })
+      (made, L.told.result_is ∙ ap (λ a. propose_numbers a result) e, record { answer_is = sym e; lent_is = L.lent_is })
 
 -- steps that were told are those that are lent from there
-steps-lent : (s : Steps) (old : List ℕ) → lent_steps (steps_numbers s old) ≡ s
-steps-lent variants.Absent [] = refl
-steps-lent variants.Absent (x ∷ old) = refl
-steps-lent (variants.Given f) old = refl
+steps_lent : (s : Steps) (old : List ℕ) → lent_steps (steps_numbers s old) ≡ s
+steps_lent variants.Absent [] = refl
+steps_lent variants.Absent (x ∷ old) = refl
+steps_lent (variants.Given f) old = refl
 
 -- ---- a file for which `film_read` returned 0, and its coefficients, formed into slices of N by `film_form`
 
@@ -77,8 +77,8 @@ module _ {bytes weights thicknesses head steps weights' thicknesses' head' steps
   read_numbers : LoadTold (answered (load_answer (gauge_in bytes))) head wedge steps place 0 head' wedge' steps' place'
       → answered (load_answer (gauge_in bytes)) ≡ answered (film (lent_head head') wedge' (lent_steps steps'))
   read_numbers T =
-      let grid : lent_steps steps' ≡ (gauge_in bytes).steps = ap lent_steps T.steps_are ∙ steps-lent (gauge_in bytes).steps steps in
-      sym (λ k. answered (film (lent_head (T.head-is k)) (T.wedge-is k) (grid k)))
+      let grid : lent_steps steps' ≡ (gauge_in bytes).steps = ap lent_steps T.steps_are ∙ steps_lent (gauge_in bytes).steps steps in
+      sym (λ k. answered (film (lent_head (T.head_is k)) (T.wedge_is k) (grid k)))
 
   read_loads : Loads bytes weights thicknesses (answered (film (lent_head head') wedge' (lent_steps steps'))) weights' thicknesses'
   read_loads =
@@ -86,8 +86,8 @@ module _ {bytes weights thicknesses head steps weights' thicknesses' head' steps
       subst (λ a. Loads bytes weights thicknesses a weights' thicknesses') e R.loads
 
   module _ {diagonals rights ups diagonals' rights' ups' : List ℕ} {sources sources' : List ℤ} {number at at' : ℕ}
-      (diagonals-len : length diagonals ≡ (lent_head head').rows * (lent_head head').columns) (rights-len : length rights ≡ (lent_head head').rows * (lent_head head').columns)
-      (ups-len : length ups ≡ (lent_head head').rows * (lent_head head').columns) (sources-len : length sources ≡ (lent_head head').rows * (lent_head head').columns)
+      (diagonals_len : length diagonals ≡ (lent_head head').rows * (lent_head head').columns) (rights_len : length rights ≡ (lent_head head').rows * (lent_head head').columns)
+      (ups_len : length ups ≡ (lent_head head').rows * (lent_head head').columns) (sources_len : length sources ≡ (lent_head head').rows * (lent_head head').columns)
       (F : FormTold (used (lent_head head') wedge' (lent_steps steps') weights' thicknesses') diagonals rights ups sources at number diagonals' rights' ups' sources' at') where
     pub session_told : Session bytes (lent_film head' weights' diagonals' rights' ups' sources')
     session_told =
@@ -105,10 +105,10 @@ module _ {bytes weights thicknesses head steps weights' thicknesses' head' steps
           rights = rights;
           ups = ups;
           sources = sources;
-          diagonals-len = diagonals-len;
-          rights-len = rights-len;
-          ups-len = ups-len;
-          sources-len = sources-len;
+          diagonals_len = diagonals_len;
+          rights_len = rights_len;
+          ups_len = ups_len;
+          sources_len = sources_len;
           diagonals' = diagonals';
           rights' = rights';
           ups' = ups';
@@ -125,19 +125,19 @@ module _ {bytes weights thicknesses head steps weights' thicknesses' head' steps
 
 module _ {bytes weights diagonals rights ups head weights' diagonals' rights' ups' head' : List ℕ} {sources sources' : List ℤ} {place place' : ℕ}
     (R : CoefficientsTold bytes weights diagonals rights ups sources head place 0 weights' diagonals' rights' ups' sources' head' place') where
-  coefficients-answered : coefficients_answer bytes weights diagonals rights ups sources ≡ answered (film_head (film_in bytes))
-  coefficients-answered =
+  coefficients_answered : coefficients_answer bytes weights diagonals rights ups sources ≡ answered (film_head (film_in bytes))
+  coefficients_answered =
       answered_0 (coefficient_load_check bytes weights diagonals rights ups sources) (film_head (film_in bytes))
       (coefficient_load_numbered bytes weights diagonals rights ups sources)
       R.told.told.number_is
 
   -- what it answered is what it wrote into head
-  coefficients-head : HeadTold (answered (film_head (film_in bytes))) head place 0 head' place' → answered (film_head (film_in bytes)) ≡ answered (lent_head head')
-  coefficients-head T = sym (λ k. answered (lent_head (T.head-is k)))
+  coefficients_head : HeadTold (answered (film_head (film_in bytes))) head place 0 head' place' → answered (film_head (film_in bytes)) ≡ answered (lent_head head')
+  coefficients_head T = sym (λ k. answered (lent_head (T.head_is k)))
 
   pub coefficients_session : Session bytes (lent_coefficients head' weights' diagonals' rights' ups' sources')
   coefficients_session =
-      let e = coefficients-answered ∙ coefficients-head (subst (λ a. HeadTold a head place 0 head' place') coefficients-answered R.told) in
+      let e = coefficients_answered ∙ coefficients_head (subst (λ a. HeadTold a head place 0 head' place') coefficients_answered R.told) in
       from_coefficients (record {
         head = lent_head head';
         weights = weights;

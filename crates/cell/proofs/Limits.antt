@@ -9,7 +9,7 @@ use lib.IntN.{ℤ, pos, negsuc, sub_ℕ}
 use mir.Syntax.{w64}
 use mir.Val.{SFits, to_z, of_z}
 use mir.Facts.{to_z-of_z}
-use Rattle.monotone.proofs.Linear.{required-enough, required-least}
+use Rattle.monotone.proofs.Linear.{required_enough, required_least}
 use Rattle.model.specs.Integers.{positive_part, negative_part}
 use Rattle.model.specs.Film.{slack_of}
 use Rattle.model.specs.Relaxation.{required_for}
@@ -21,28 +21,28 @@ use Rattle.cell.specs.declared.Cell.{Cell}
 abbrev required_by : Cell → ℕ
 required_by c = required_for c.diagonal c.pull c.source
 
-pub slack-split : (c : Cell) (p : ℕ) → slack_of c.diagonal c.pull c.source p ≡ sub_ℕ (positive_terms c p) (negative_terms c)
+pub slack_split : (c : Cell) (p : ℕ) → slack_of c.diagonal c.pull c.source p ≡ sub_ℕ (positive_terms c p) (negative_terms c)
 unfolding positive_terms negative_terms
-slack-split c p = sub_source (c.diagonal * p) c.pull c.source
+slack_split c p = sub_source (c.diagonal * p) c.pull c.source
 
 module _ (c : Cell) (b : Bounded c) where
   -- the slack is not negative at a pressure exactly if it is at least what is required
-  pub met-required : (p : ℕ) → negative_terms c ≤ positive_terms c p → required_by c ≤ p
+  pub met_required : (p : ℕ) → negative_terms c ≤ positive_terms c p → required_by c ≤ p
   unfolding negative_terms positive_terms
-  met-required p h = required-least c.diagonal (positive_part c.source) (negative_terms c) p b.some h
+  met_required p h = required_least c.diagonal (positive_part c.source) (negative_terms c) p b.some h
 
-  pub required-met : (p : ℕ) → required_by c ≤ p → negative_terms c ≤ positive_terms c p
+  pub required_met : (p : ℕ) → required_by c ≤ p → negative_terms c ≤ positive_terms c p
   unfolding negative_terms positive_terms
-  required-met p h = required-enough c.diagonal (positive_part c.source) (negative_terms c) p b.some h
+  required_met p h = required_enough c.diagonal (positive_part c.source) (negative_terms c) p b.some h
 
   -- a quiet cell is raised to nothing, and any other to what it requires
   pub raise_quiet : (p : ℕ) → negative_terms c ≤ positive_terms c p → 0 ≡ raise_to (required_by c) p
-  raise_quiet p h = rw (le-leb _ _ (met-required p h))
+  raise_quiet p h = rw (le-leb _ _ (met_required p h))
 
   pub raise_up : (p : ℕ) → positive_terms c p < negative_terms c → required_by c ≡ raise_to (required_by c) p
   raise_up p h =
       elim (dec_le (required_by c) p) [
-        | yes l ↦ absurd (omega (arith, required-met p l))
+        | yes l ↦ absurd (omega (arith, required_met p l))
         | no l ↦ rw (lt-leb (required_by c) p (omega arith))
       ]
 
@@ -59,9 +59,9 @@ module _ (c : Cell) (b : Bounded c) where
   negative_terms_small = omega arith
 
 -- a signed number that is small either way is read back from its bits
-small-fits : (s : ℤ) → positive_part s ≤ 2 ^ 60 → negative_part s ≤ 2 ^ 60 → SFits w64 s
-small-fits (pos n) l d = record { sfits = omega arith }
-small-fits (negsuc n) l d = record { sfits = omega arith }
+small_fits : (s : ℤ) → positive_part s ≤ 2 ^ 60 → negative_part s ≤ 2 ^ 60 → SFits w64 s
+small_fits (pos n) l d = record { sfits = omega arith }
+small_fits (negsuc n) l d = record { sfits = omega arith }
 
 pub source_kept : (c : Cell) → Bounded c → to_z w64 (of_z w64 c.source) ≡ c.source
-source_kept c b = to_z-of_z (small-fits c.source b.positive b.negative)
+source_kept c b = to_z-of_z (small_fits c.source b.positive b.negative)

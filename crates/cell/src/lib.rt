@@ -3,6 +3,7 @@
 // slack is a difference of two.
 //
 // Proved: each function equals document 01's definition (crate `model`), within limits that leave every sum room.
+#![tactic(auto)]
 ghost use Rattle.std.specs.Prelude.{◌≡◌, ◌≤◌, ◌*◌, ◌^◌, max};
 ghost use Rattle.std.proofs.Math.IntN.{sub_ℕ};
 ghost use Rattle.model.specs.Integers.{positive_part, negative_part};
@@ -56,7 +57,7 @@ pub fn larger(a: u32, b: u32) -> u32
     if a < b { b } else { a }
 }
 
-#[derive(Drop)]
+#[derive(Clone, Copy)]
 pub struct Cell {
     pub diagonal: u32,
     pub pull: u64,

@@ -36,11 +36,11 @@ sound_step false m b k idle = refl
 sound_step false m b k (pivot g h) = refl
 sound_step false m b k broken = refl
 
-pub recall-is : (e : paper.Elimination) → is_broken e ≡ false → sound e ≡ true → recall (kept_of e).g (kept_of e).h ≡ e
+pub recall_is : (e : paper.Elimination) → is_broken e ≡ false → sound e ≡ true → recall (kept_of e).g (kept_of e).h ≡ e
 unfolding lt of_int
-recall-is idle u s = refl
-recall-is (pivot g h) u s = rw s
-recall-is broken u s = absurd (true≢false u)
+recall_is idle u s = refl
+recall_is (pivot g h) u s = rw s
+recall_is broken u s = absurd (true≢false u)
 
 -- a cell that is not active yields idle, whatever was handed to it
 pub idle_recalled : (m b k g h : Float) → idle ≡ eliminate false m b k (recall g h)

@@ -3,6 +3,7 @@
 // line calls it, and the way back recalls its steps.
 //
 // Proved: each step is document 01's, float by float in the order of its text (crate `model`: Estimate).
+#![tactic(auto)]
 ghost use Rattle.std.specs.Prelude.{◌≡◌, true, ◌||◌, ◌≤◌, ◌^◌, ltb, pos, neg_ℤ, ◌+ℤ◌, nat_abs};
 ghost use Rattle.model.specs.Integers.{negative};
 ghost use Rattle.model.specs.Film.{slack_of};
@@ -13,7 +14,7 @@ ghost use Rattle.chain.specs.Line.{elimination_of, kept_of, recall};
 use cell::Cell;
 
 // What an elimination step yields: the cell is not active, its pivot and right side, or the pivot is not above 0.
-#[derive(Drop)]
+#[derive(Clone, Copy)]
 pub enum Elimination {
     Idle,
     Pivot(f64, f64),
@@ -22,7 +23,7 @@ pub enum Elimination {
 
 // Pivot and right side of the cell before (g' and h' of document 01), handed along the chain of active cells. A pivot is above 0, so
 // g = 0 says that no active cell precedes: a chain begins.
-#[derive(Drop)]
+#[derive(Clone, Copy)]
 pub struct Preceding {
     pub g: f64,
     pub h: f64,

@@ -5,6 +5,7 @@
 // Proved: what each test finds, read as the model's check by `check_of`, equals the check that crate `model` defines, for all values
 // that the types can hold: no public function asks anything of its caller. So the first test that fails wins, at its lowest place.
 // Only the tests of values ask that those before them have passed, and no other crate calls these.
+#![tactic(auto)]
 ghost use Rattle.std.specs.Prelude.{◌≡◌};
 ghost use Rattle.model.specs.Refusals.{check_of};
 ghost use Rattle.model.specs.Film.{film_of};

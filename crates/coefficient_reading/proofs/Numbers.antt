@@ -21,13 +21,13 @@ use Rattle.model.specs.CoefficientFile.{coefficient_fields, diagonals_offset, ri
 use Rattle.model.specs.CoefficientCalls.{film_head, LoadsFilm}
 use Rattle.model.specs.Result.{Answer, answered, refused}
 use Rattle.model.proofs.Checks.{refused_passes}
-use Rattle.model.proofs.Lists.{tabulate-length}
-use Rattle.model.proofs.Fields.{Passes, fields-pass, passes_end}
-use Rattle.model.proofs.Opening.{shape_passes, carried-low, carries_all}
+use Rattle.model.proofs.Lists.{tabulate_length}
+use Rattle.model.proofs.Fields.{Passes, fields_pass, passes_end}
+use Rattle.model.proofs.Opening.{shape_passes, carried_low, carries_all}
 use Rattle.model.proofs.Weighing.{ones}
 use Rattle.model.proofs.CoefficientFile.{sized_in, limited_in}
 use Rattle.model.proofs.Sides.{cells_low}
-use Rattle.text.proofs.Writes.{sets-front}
+use Rattle.text.proofs.Writes.{sets_front}
 use Rattle.refusals.specs.Parts.{unweighted, sourceless}
 use Rattle.weighing.specs.Searches.{Searchable, Searches}
 use Rattle.coefficient_reading.specs.Reading.{Buffers, Decoded, Stands, rest_check, Weighs}
@@ -41,13 +41,13 @@ pub record Whole (l : List ℕ) : Type 0 where
   pub has : carried_in l ≤ 1024
   pub long : 18 + 2 * carried_in l + 20 * cells_in l + 9 ≤ length l
 
-pub fields-whole : (l : List ℕ) → fields_check (coefficient_fields_in l) l ≡ pass → Whole l
-fields-whole l e =
+pub fields_whole : (l : List ℕ) → fields_check (coefficient_fields_in l) l ≡ pass → Whole l
+fields_whole l e =
     let fields = coefficient_fields (carried_in l) (cells_in l) in
-    let p = (fields-pass fields l e).0 in
+    let p = (fields_pass fields l e).0 in
     let s = shape_passes _ _ _ _ p.1 in
-    let few = cells_low _ _ s.rows-low s.columns-low in
-    record { passes = p; few = few; has = omega (arith, few, carried-low l (cells_in l)); long = omega (arith, passes_end fields l 0 p (omega arith)) }
+    let few = cells_low _ _ s.rows_low s.columns_low in
+    record { passes = p; few = few; has = omega (arith, few, carried_low l (cells_in l)); long = omega (arith, passes_end fields l 0 p (omega arith)) }
 
 -- the lists at the starts of tables, with the head that stands in the file, stand there
 pub stands : (l : List ℕ) {h : Head} {from n : ℕ} {d r u : List ℕ} {s : List ℤ} → fields_check (coefficient_fields_in l) l ≡ pass → h ≡ film_head (coefficients_in l) → n ≡ cells_in l
@@ -79,14 +79,14 @@ module _ (l : List ℕ) {h : Head} {d r u : List ℕ} {s : List ℤ} (S : Stands
   pub cells_are : h.rows * h.columns ≡ cells_in l
   cells_are = ap size_of S.same
 
-  pub few-cells : {n : ℕ} → n ≡ h.rows * h.columns → n ≤ 1024
-  few-cells e = omega (arith, e, cells_are, (fields-whole l S.fields).few)
+  pub few_cells : {n : ℕ} → n ≡ h.rows * h.columns → n ≤ 1024
+  few_cells e = omega (arith, e, cells_are, (fields_whole l S.fields).few)
 
-  pub weights-long : {n : ℕ} → n ≡ h.rows * h.columns → weightless l ≡ false → weights_offset + 2 * n ≤ length l
-  weights-long e c = omega (arith, e, cells_are, carries_all l c, (fields-whole l S.fields).long)
+  pub weights_long : {n : ℕ} → n ≡ h.rows * h.columns → weightless l ≡ false → weights_offset + 2 * n ≤ length l
+  weights_long e c = omega (arith, e, cells_are, carries_all l c, (fields_whole l S.fields).long)
 
   pub sized : (weights : List ℕ) → length weights ≡ h.rows * h.columns → Sized (film_of h weights d r u s)
-  sized weights e = rw (with weights) (sized_in l (carried_in l) weights (e ∙ cells_are) (fields-whole l S.fields).passes)
+  sized weights e = rw (with weights) (sized_in l (carried_in l) weights (e ∙ cells_are) (fields_whole l S.fields).passes)
 
   -- 14
   pub coefficients_tested : {c : Check} → c ≡ coefficient_check (unweighted h d r u s) → c ≡ coefficient_check (coefficients_in l)
@@ -94,10 +94,10 @@ module _ (l : List ℕ) {h : Head} {d r u : List ℕ} {s : List ℤ} (S : Stands
   coefficients_tested e = e ∙ ap coefficient_check S.same
 
   pub limited : coefficient_check (coefficients_in l) ≡ pass → (weights : List ℕ) → length weights ≡ h.rows * h.columns → Limited (film_of h weights d r u s)
-  limited p weights e = rw (with weights) (limited_in l (carried_in l) weights (e ∙ cells_are) (fields-whole l S.fields).passes p)
+  limited p weights e = rw (with weights) (limited_in l (carried_in l) weights (e ∙ cells_are) (fields_whole l S.fields).passes p)
 
   pub searchable : coefficient_check (coefficients_in l) ≡ pass → Searchable h d r u
-  searchable p = let w = ones (h.rows * h.columns) in (w, (s, limited p w (tabulate-length _ _)))
+  searchable p = let w = ones (h.rows * h.columns) in (w, (s, limited p w (tabulate_length _ _)))
 
   module _ (p : coefficient_check (coefficients_in l) ≡ pass) where
     -- the test of the weights comes after it
@@ -138,23 +138,23 @@ module _ (l : List ℕ) {h : Head} {d r u : List ℕ} {s : List ℤ} (S : Stands
 
 module _ (f : Film) (S : Sized f) (weights diagonals rights ups : List ℕ) (sources : List ℤ) (B : Buffers weights diagonals rights ups sources) where
   few : size_of f ≤ 1024
-  few = cells_low _ _ S.rows-low S.columns-low
+  few = cells_low _ _ S.rows_low S.columns_low
 
   -- the buffers have room
-  pub weights-room : length f.weights ≤ length weights
-  weights-room = omega (arith, few, S.weights-len, B.weights-len)
+  pub weights_room : length f.weights ≤ length weights
+  weights_room = omega (arith, few, S.weights_len, B.weights_len)
 
-  pub diagonals-room : length f.diagonals ≤ length diagonals
-  diagonals-room = omega (arith, few, S.diagonals-len, B.diagonals-len)
+  pub diagonals_room : length f.diagonals ≤ length diagonals
+  diagonals_room = omega (arith, few, S.diagonals_len, B.diagonals_len)
 
-  pub rights-room : length f.rights ≤ length rights
-  rights-room = omega (arith, few, S.rights-len, B.rights-len)
+  pub rights_room : length f.rights ≤ length rights
+  rights_room = omega (arith, few, S.rights_len, B.rights_len)
 
-  pub ups-room : length f.ups ≤ length ups
-  ups-room = omega (arith, few, S.ups-len, B.ups-len)
+  pub ups_room : length f.ups ≤ length ups
+  ups_room = omega (arith, few, S.ups_len, B.ups_len)
 
-  pub sources-room : length f.sources ≤ length sources
-  sources-room = omega (arith, few, S.sources-len, B.sources-len)
+  pub sources_room : length f.sources ≤ length sources
+  sources_room = omega (arith, few, S.sources_len, B.sources_len)
 
   pub film_loaded : {c : Check} {weights' diagonals' rights' ups' : List ℕ} {sources' : List ℤ} → c ≡ pass
       → weights' ≡ sets weights 0 f.weights → diagonals' ≡ sets diagonals 0 f.diagonals → rights' ≡ sets rights 0 f.rights
@@ -162,26 +162,26 @@ module _ (f : Film) (S : Sized f) (weights diagonals rights ups : List ℕ) (sou
       → LoadsFilm c f weights diagonals rights ups sources (answered (film_head f)) weights' diagonals' rights' ups' sources'
   film_loaded e w d r u s =
       record {
-        answer-is = rw e;
-        weights_are = rw e (w ∙ sets-front weights f.weights weights-room);
-        diagonals_are = rw e (d ∙ sets-front diagonals f.diagonals diagonals-room);
-        rights_are = rw e (r ∙ sets-front rights f.rights rights-room);
-        ups_are = rw e (u ∙ sets-front ups f.ups ups-room);
-        sources_are = rw e (s ∙ sets-front sources f.sources sources-room);
+        answer_is = rw e;
+        weights_are = rw e (w ∙ sets_front weights f.weights weights_room);
+        diagonals_are = rw e (d ∙ sets_front diagonals f.diagonals diagonals_room);
+        rights_are = rw e (r ∙ sets_front rights f.rights rights_room);
+        ups_are = rw e (u ∙ sets_front ups f.ups ups_room);
+        sources_are = rw e (s ∙ sets_front sources f.sources sources_room);
       }
 
 -- the film that stands there, with its weights
-pub whole-film : (l : List ℕ) {h : Head} {d r u : List ℕ} {s : List ℤ} {exit : List ℕ} {x : Tested} → Stands l h d r u s → Weighs l x exit → check_of x ≡ pass
+pub whole_film : (l : List ℕ) {h : Head} {d r u : List ℕ} {s : List ℤ} {exit : List ℕ} {x : Tested} → Stands l h d r u s → Weighs l x exit → check_of x ≡ pass
     → film_of h exit d r u s ≡ film_in l
-whole-film l {exit = exit} S W e = with l S exit ∙ ap (weighted (coefficients_in l)) (W.weights_are e)
+whole_film l {exit = exit} S W e = with l S exit ∙ ap (weighted (coefficients_in l)) (W.weights_are e)
 
-pub film-refused : {c : Check} {f : Film} {weights diagonals rights ups : List ℕ} {sources : List ℤ} {number place : ℕ} → c ≡ fail number place
+pub film_refused : {c : Check} {f : Film} {weights diagonals rights ups : List ℕ} {sources : List ℤ} {number place : ℕ} → c ≡ fail number place
     → LoadsFilm c f weights diagonals rights ups sources (refused number place) weights diagonals rights ups sources
-film-refused e = record { answer-is = rw e; weights_are = rw e; diagonals_are = rw e; rights_are = rw e; ups_are = rw e; sources_are = rw e }
+film_refused e = record { answer_is = rw e; weights_are = rw e; diagonals_are = rw e; rights_are = rw e; ups_are = rw e; sources_are = rw e }
 
 -- what holds of a film holds of the same one
-pub loads-same : {c : Check} {f g : Film} {weights diagonals rights ups weights' diagonals' rights' ups' : List ℕ} {sources sources' : List ℤ} {answer : Answer Head} → f ≡ g
+pub loads_same : {c : Check} {f g : Film} {weights diagonals rights ups weights' diagonals' rights' ups' : List ℕ} {sources sources' : List ℤ} {answer : Answer Head} → f ≡ g
     → LoadsFilm c f weights diagonals rights ups sources answer weights' diagonals' rights' ups' sources'
     → LoadsFilm c g weights diagonals rights ups sources answer weights' diagonals' rights' ups' sources'
-loads-same {c = c} {weights = w} {diagonals = d} {rights = r} {ups = u} {weights' = w'} {diagonals' = d'} {rights' = r'} {ups' = u'} {sources = s} {sources' = s'} {answer = a} e =
+loads_same {c = c} {weights = w} {diagonals = d} {rights = r} {ups = u} {weights' = w'} {diagonals' = d'} {rights' = r'} {ups' = u'} {sources = s} {sources' = s'} {answer = a} e =
     subst (λ (x : Film). LoadsFilm c x w d r u s a w' d' r' u' s') e

@@ -10,11 +10,11 @@ use Rattle.model.specs.declared.Head.{Head}
 use Rattle.model.specs.declared.Tested.{Tested}
 
 pub record Buffers (weights diagonals rights ups : List ℕ) (sources : List ℤ) : Type 0 where
-  pub weights-len : length weights ≡ 1024
-  pub diagonals-len : length diagonals ≡ 1024
-  pub rights-len : length rights ≡ 1024
-  pub ups-len : length ups ≡ 1024
-  pub sources-len : length sources ≡ 1024
+  pub weights_len : length weights ≡ 1024
+  pub diagonals_len : length diagonals ≡ 1024
+  pub rights_len : length rights ≡ 1024
+  pub ups_len : length ups ≡ 1024
+  pub sources_len : length sources ≡ 1024
 
 -- the tables begin with the n numbers of each list, the first of which stands from an offset on
 pub record Decoded (bytes : List ℕ) (from n : ℕ) (diagonals rights ups : List ℕ) (sources : List ℤ) : Type 0 where

@@ -11,8 +11,8 @@ use Rattle.model.specs.CoefficientFile.{read_coefficients}
 use Rattle.model.specs.CoefficientCalls.{buffers_fit, LoadsCoefficients, used_film}
 use Rattle.model.specs.Report.{refused_line, film_report, report_by}
 use Rattle.model.specs.declared.Head.{Head}
-use Rattle.model.proofs.CoefficientFile.{coefficients-accepted}
-use Rattle.model.proofs.CoefficientInverse.{read_coefficients_lem, coefficients-refusal}
+use Rattle.model.proofs.CoefficientFile.{coefficients_accepted}
+use Rattle.model.proofs.CoefficientInverse.{read_coefficients_lem, coefficients_refusal}
 
 -- of the film that it has read, ..
 pub record Read (bytes : List ℕ) (f : Film) : Type 0 where
@@ -23,9 +23,9 @@ module _ (bytes : List ℕ) {w d r u w' d' r' u' : List ℕ} {s s' : List ℤ} w
   pub read_report : {h : Head} → LoadsCoefficients bytes w d r u s (answered h) w' d' r' u' s' → Read bytes (used_film h w' d' r' u' s')
   read_report {h} L =
       let reads = read_coefficients_lem bytes w d r u s h L in
-      record { accepted = coefficients-accepted bytes (used_film h w' d' r' u' s') reads; text = ap report_by reads }
+      record { accepted = coefficients_accepted bytes (used_film h w' d' r' u' s') reads; text = ap report_by reads }
 
   -- .. or of its refusal
-  pub refusal-report : {number place : ℕ} → buffers_fit w d r u s ≡ true → LoadsCoefficients bytes w d r u s (refused number place) w' d' r' u' s'
+  pub refusal_report : {number place : ℕ} → buffers_fit w d r u s ≡ true → LoadsCoefficients bytes w d r u s (refused number place) w' d' r' u' s'
       → report_by (read_coefficients bytes) ≡ refused_line number place
-  refusal-report {number} {place} e L = ap report_by (coefficients-refusal bytes w d r u s number place e L)
+  refusal_report {number} {place} e L = ap report_by (coefficients_refusal bytes w d r u s number place e L)

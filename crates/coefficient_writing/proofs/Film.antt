@@ -15,8 +15,8 @@ use Rattle.model.specs.File.{cells, weight_bytes}
 use Rattle.model.specs.CoefficientFile.{coefficient_end, coefficient_fields, source_bytes, coefficient_bodies, coefficient_file_of}
 use Rattle.model.specs.CoefficientCalls.{film_head}
 use Rattle.model.specs.declared.Head.{Head}
-use Rattle.model.proofs.Codes.{word_code, long_code, signed-quad_code, listed-length}
-use Rattle.text.proofs.Writes.{sets-next, sets-whole}
+use Rattle.model.proofs.Codes.{word_code, long_code, signed_quad_code, listed_length}
+use Rattle.text.proofs.Writes.{sets_next, sets_whole}
 use Rattle.coefficient_writing.specs.Writable.{coefficient_length, opening_bytes, own_bytes, Numbers, Writable}
 
 pub length_known : (rows columns : ℕ) → rows ≤ side_limit → columns ≤ side_limit → coefficient_length rows columns ≡ coefficient_end (cells rows columns)
@@ -24,8 +24,8 @@ unfolding coefficient_length
 length_known rows columns h l = rw (le-ltb side_limit rows h, le-ltb side_limit columns l)
 
 -- the same as a sum
-pub length-sum : (rows columns : ℕ) → rows ≤ side_limit → columns ≤ side_limit → coefficient_length rows columns ≡ 27 + 22 * cells rows columns
-length-sum rows columns h l = length_known rows columns h l ∙ omega arith
+pub length_sum : (rows columns : ℕ) → rows ≤ side_limit → columns ≤ side_limit → coefficient_length rows columns ≡ 27 + 22 * cells rows columns
+length_sum rows columns h l = length_known rows columns h l ∙ omega arith
 
 -- the fields that all films share
 pub opening_put : (h : Head) (weights out : List ℕ) {l1 l2 l3 : List ℕ}
@@ -37,7 +37,7 @@ opening_put h weights out e1 e2 e3 =
     let f1 = field 1 2 (h.rows ∷ h.columns ∷ []) in
     let f2 = field 2 4 (long h.ceiling) in
     let f3 = field 3 (2 * length weights) (weight_bytes weights) in
-    sets-next out (f1 ++ f2) f3 0 12 (sets-next out f1 f2 0 5 e1 e2 refl) e3 refl
+    sets_next out (f1 ++ f2) f3 0 12 (sets_next out f1 f2 0 5 e1 e2 refl) e3 refl
 
 -- the four of its own
 abbrev diagonals_part : List ℕ → List ℕ
@@ -74,10 +74,10 @@ module _ (diagonals rights ups : List ℕ) (sources : List ℤ) where
 
   ends : {n : ℕ} → Numbers n diagonals rights ups sources → Ends n
   ends {n} N =
-      let a : length g1 ≡ 3 + 4 * n = omega (arith, listed-length long_code diagonals, N.diagonals-len) in
-      let b2 : length g2 ≡ 3 + 4 * n = omega (arith, listed-length long_code rights, N.rights-len) in
-      let c3 : length g3 ≡ 3 + 4 * n = omega (arith, listed-length long_code ups, N.ups-len) in
-      let d4 : length g4 ≡ 3 + 8 * n = omega (arith, listed-length signed-quad_code sources, N.sources-len) in
+      let a : length g1 ≡ 3 + 4 * n = omega (arith, listed_length long_code diagonals, N.diagonals_len) in
+      let b2 : length g2 ≡ 3 + 4 * n = omega (arith, listed_length long_code rights, N.rights_len) in
+      let c3 : length g3 ≡ 3 + 4 * n = omega (arith, listed_length long_code ups, N.ups_len) in
+      let d4 : length g4 ≡ 3 + 8 * n = omega (arith, listed_length signed_quad_code sources, N.sources_len) in
       let b = both g1 g2 a b2 in
       let c = both (g1 ++ g2) g3 b c3 in
       let d = both (g1 ++ g2 ++ g3) g4 c d4 in
@@ -100,9 +100,9 @@ module _ (diagonals rights ups : List ℕ) (sources : List ℤ) where
       → l4 ≡ sets out at (own_bytes diagonals rights ups sources)
   own_put n at out N e1 e2 e3 e4 =
       let k = ends N in
-      let d2 = sets-next out g1 g2 at (at + 3 + 4 * n) e1 e2 (omega (arith, k.first)) in
-      let d3 = sets-next out (g1 ++ g2) g3 at (at + 6 + 8 * n) d2 e3 (omega (arith, k.second)) in
-      sets-next out (g1 ++ g2 ++ g3) g4 at (at + 9 + 12 * n) d3 e4 (omega (arith, k.third))
+      let d2 = sets_next out g1 g2 at (at + 3 + 4 * n) e1 e2 (omega (arith, k.first)) in
+      let d3 = sets_next out (g1 ++ g2) g3 at (at + 6 + 8 * n) d2 e3 (omega (arith, k.second)) in
+      sets_next out (g1 ++ g2 ++ g3) g4 at (at + 9 + 12 * n) d3 e4 (omega (arith, k.third))
 
 -- and all of them
 module _ (f : Film) (out : List ℕ) (R : Writable f out) where
@@ -121,7 +121,7 @@ module _ (f : Film) (out : List ℕ) (R : Writable f out) where
       let N = R.numbers in
       append_assoc (f1 ++ f2) f3 own
       ∙ ap (λ r. f1 ++ (f2 ++ (f3 ++ r))) (four (diagonals_part f.diagonals) (rights_part f.rights) (ups_part f.ups) (sources_part f.sources))
-      ∙ (λ k. f1 ++ (f2 ++ (field 3 (2 * R.weights-len k) (weight_bytes f.weights) ++ (field 6 (4 * N.diagonals-len k) (listed long f.diagonals) ++ (field 7 (4 * N.rights-len k) (listed long f.rights) ++ (field 8 (4 * N.ups-len k) (listed long f.ups) ++ (field 9 (8 * N.sources-len k) (listed source_bytes f.sources) ++ [])))))))
+      ∙ (λ k. f1 ++ (f2 ++ (field 3 (2 * R.weights_len k) (weight_bytes f.weights) ++ (field 6 (4 * N.diagonals_len k) (listed long f.diagonals) ++ (field 7 (4 * N.rights_len k) (listed long f.rights) ++ (field 8 (4 * N.ups_len k) (listed long f.ups) ++ (field 9 (8 * N.sources_len k) (listed source_bytes f.sources) ++ [])))))))
     where
       four : (a b c d : List ℕ) → a ++ b ++ c ++ d ≡ a ++ (b ++ (c ++ (d ++ [])))
       four a b c d = append_assoc (a ++ b) c d ∙ append_assoc a b (c ++ d) ∙ ap (λ r. a ++ (b ++ (c ++ r))) (sym (append-nil d))
@@ -129,8 +129,8 @@ module _ (f : Film) (out : List ℕ) (R : Writable f out) where
   pub film_put : {l k : List ℕ} → l ≡ sets out 0 opened → k ≡ sets l (15 + 2 * length f.weights) own → k ≡ coefficient_file_of f
   unfolding coefficient_file_of
   film_put e1 e2 =
-      let w = listed-length word_code f.weights in
+      let w = listed_length word_code f.weights in
       let c = ends f.diagonals f.rights f.ups f.sources R.numbers in
       let place : 15 + 2 * length f.weights ≡ length opened = omega arith in
-      let room : length (opened ++ own) ≡ length out = omega (arith, length-append opened own, c.whole, R.out_len, R.weights-len) in
-      sets-next out opened own 0 (15 + 2 * length f.weights) e1 e2 (omega (arith, place)) ∙ sets-whole out (opened ++ own) room ∙ fields_are
+      let room : length (opened ++ own) ≡ length out = omega (arith, length-append opened own, c.whole, R.out_len, R.weights_len) in
+      sets_next out opened own 0 (15 + 2 * length f.weights) e1 e2 (omega (arith, place)) ∙ sets_whole out (opened ++ own) room ∙ fields_are

@@ -25,15 +25,15 @@ own_bytes diagonals rights ups sources =
 
 -- n numbers of each list
 pub record Numbers (n : ℕ) (diagonals rights ups : List ℕ) (sources : List ℤ) : Type 0 where
-  pub diagonals-len : length diagonals ≡ n
-  pub rights-len : length rights ≡ n
-  pub ups-len : length ups ≡ n
-  pub sources-len : length sources ≡ n
+  pub diagonals_len : length diagonals ≡ n
+  pub rights_len : length rights ≡ n
+  pub ups_len : length ups ≡ n
+  pub sources_len : length sources ≡ n
 
 -- a film whose shape and lengths have passed their tests, and a slice of its file's length
 pub record Writable (f : Film) (out : List ℕ) : Type 0 where
-  pub rows-low : f.rows ≤ side_limit
-  pub columns-low : f.columns ≤ side_limit
-  pub weights-len : length f.weights ≡ size_of f
+  pub rows_low : f.rows ≤ side_limit
+  pub columns_low : f.columns ≤ side_limit
+  pub weights_len : length f.weights ≡ size_of f
   pub numbers : Numbers (size_of f) f.diagonals f.rights f.ups f.sources
   pub out_len : length out ≡ coefficient_end (size_of f)

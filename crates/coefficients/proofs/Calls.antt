@@ -26,10 +26,10 @@ filled n after e t = sym (take_all n after (omega arith)) ∙ t
 
 -- as many places as there were
 pub record Unchanged (diagonals rights ups : List ℕ) (sources : List ℤ) (diagonals' rights' ups' : List ℕ) (sources' : List ℤ) : Type 0 where
-  pub diagonals-kept : length diagonals' ≡ length diagonals
-  pub rights-kept : length rights' ≡ length rights
-  pub ups-kept : length ups' ≡ length ups
-  pub sources-kept : length sources' ≡ length sources
+  pub diagonals_kept : length diagonals' ≡ length diagonals
+  pub rights_kept : length rights' ≡ length rights
+  pub ups_kept : length ups' ≡ length ups
+  pub sources_kept : length sources' ≡ length sources
 
 module _ (h : Head) (weights thicknesses : List ℕ) (wedge : ℤ) (steps : Steps) (diagonals rights ups : List ℕ) (sources : List ℤ) where
   abbrev pub g : Gauge
@@ -49,10 +49,10 @@ module _ (h : Head) (weights thicknesses : List ℕ) (wedge : ℤ) (steps : Step
   form_tested n w e = (rw (n, w) at e) ∙ ap (gauge_check g) (simp and_assoc)
 
   record Lengths : Type 0 where
-    diagonals-len : length diagonals ≡ cells g.rows g.columns
-    rights-len : length rights ≡ cells g.rows g.columns
-    ups-len : length ups ≡ cells g.rows g.columns
-    sources-len : length sources ≡ cells g.rows g.columns
+    diagonals_len : length diagonals ≡ cells g.rows g.columns
+    rights_len : length rights ≡ cells g.rows g.columns
+    ups_len : length ups ≡ cells g.rows g.columns
+    sources_len : length sources ≡ cells g.rows g.columns
 
   module _ (e : form_check g diagonals rights ups sources ≡ pass) where
     tests : gauge_check g (gauge_fits g && four_fit) ≡ pass
@@ -64,10 +64,10 @@ module _ (h : Head) (weights thicknesses : List ℕ) (wedge : ℤ) (steps : Step
         let b = and_parts _ _ c.0 in
         let a = and_parts _ _ b.0 in
         record {
-          diagonals-len = eqb-true _ _ a.0;
-          rights-len = eqb-true _ _ a.1;
-          ups-len = eqb-true _ _ b.1;
-          sources-len = eqb-true _ _ c.1;
+          diagonals_len = eqb-true _ _ a.0;
+          rights_len = eqb-true _ _ a.1;
+          ups_len = eqb-true _ _ b.1;
+          sources_len = eqb-true _ _ c.1;
         }
 
     -- what forming asks
@@ -77,10 +77,10 @@ module _ (h : Head) (weights thicknesses : List ℕ) (wedge : ℤ) (steps : Step
         let m = gauge_measured g four_fit tests in (
           (measured_ringed m.0, m.2),
           record {
-            diagonals-room = omega (arith, l.diagonals-len);
-            rights-room = omega (arith, l.rights-len);
-            ups-room = omega (arith, l.ups-len);
-            sources-room = omega (arith, l.sources-len);
+            diagonals_room = omega (arith, l.diagonals_len);
+            rights_room = omega (arith, l.rights_len);
+            ups_room = omega (arith, l.ups_len);
+            sources_room = omega (arith, l.sources_len);
           },
         )
 
@@ -92,14 +92,14 @@ module _ (h : Head) (weights thicknesses : List ℕ) (wedge : ℤ) (steps : Step
         let l = lengths in
         let n = cells g.rows g.columns in
         record {
-          answer-is = rw e;
-          diagonals_are = rw e (filled n diagonals' (k.diagonals-kept ∙ l.diagonals-len) b.diagonals_are);
-          rights_are = rw e (filled n rights' (k.rights-kept ∙ l.rights-len) b.rights_are);
-          ups_are = rw e (filled n ups' (k.ups-kept ∙ l.ups-len) b.ups_are);
-          sources_are = rw e (filled n sources' (k.sources-kept ∙ l.sources-len) b.sources_are);
+          answer_is = rw e;
+          diagonals_are = rw e (filled n diagonals' (k.diagonals_kept ∙ l.diagonals_len) b.diagonals_are);
+          rights_are = rw e (filled n rights' (k.rights_kept ∙ l.rights_len) b.rights_are);
+          ups_are = rw e (filled n ups' (k.ups_kept ∙ l.ups_len) b.ups_are);
+          sources_are = rw e (filled n sources' (k.sources_kept ∙ l.sources_len) b.sources_are);
         }
 
   -- .. or nothing
   pub form_refused : {number place : ℕ} → form_check g diagonals rights ups sources ≡ fail number place
       → Forms g diagonals rights ups sources (refused number place) diagonals rights ups sources
-  form_refused e = record { answer-is = rw e; diagonals_are = rw e; rights_are = rw e; ups_are = rw e; sources_are = rw e }
+  form_refused e = record { answer_is = rw e; diagonals_are = rw e; rights_are = rw e; ups_are = rw e; sources_are = rw e }

@@ -2,6 +2,7 @@
 // It asks nothing of its caller: it tests its input first, in document 01's order, and a refused call changes nothing.
 //
 // Proved: the whole answer, and the four slices, are those of crate `model` (Forms).
+#![tactic(auto)]
 ghost use Rattle.model.specs.FileCalls.{gauge_of, form_answer_of, Forms};
 
 use model::{Formed, Head, Steps, Tested};

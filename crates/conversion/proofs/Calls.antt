@@ -19,7 +19,7 @@ use Rattle.model.specs.CoefficientCalls.{convert_check, convert_call}
 use Rattle.model.specs.declared.Head.{Head}
 use Rattle.model.specs.declared.Steps.{Steps}
 use Rattle.model.proofs.File.{gauge_shape}
-use Rattle.model.proofs.Lists.{tabulate-length}
+use Rattle.model.proofs.Lists.{tabulate_length}
 use Rattle.refusals.proofs.Chain.{or_else_given}
 use Rattle.gauge.specs.Tests.{Measured}
 use Rattle.gauge.proofs.Tests.{gauge_measured}
@@ -37,7 +37,7 @@ convert_tested h weights thicknesses wedge steps out n w e =
     let g = gauge_of h weights thicknesses wedge steps in
     (rw (n, w) at e)
     ∙ or_else_given (shape_check g.rows rows_offset g.columns columns_offset)
-    (λ e. let s = gauge_shape g e in rw (length_known g.rows g.columns s.rows-low s.columns-low))
+    (λ e. let s = gauge_shape g e in rw (length_known g.rows g.columns s.rows_low s.columns_low))
 
 module _ (g : Gauge) (out : List ℕ) where
   -- what passes can be formed, and its file fills the slice
@@ -50,16 +50,16 @@ module _ (g : Gauge) (out : List ℕ) where
   formed_writable m e =
       let s = gauge_shape g m.shape in
       record {
-        rows-low = s.rows-low;
-        columns-low = s.columns-low;
-        weights-len = m.weights-len;
-        numbers = record { diagonals-len = tabulate-length _ _; rights-len = tabulate-length _ _; ups-len = tabulate-length _ _; sources-len = tabulate-length _ _ };
+        rows_low = s.rows_low;
+        columns_low = s.columns_low;
+        weights_len = m.weights_len;
+        numbers = record { diagonals_len = tabulate_length _ _; rights_len = tabulate_length _ _; ups_len = tabulate_length _ _; sources_len = tabulate_length _ _ };
         out_len = e;
       }
 
   -- all is written, or nothing
   pub convert_passed : {exit : List ℕ} → convert_check g out ≡ pass → exit ≡ coefficient_file_of (formed g) → Gives (convert_call g out) (answered tt) exit
-  convert_passed e f = record { answer-is = rw e; lent_is = rw e f }
+  convert_passed e f = record { answer_is = rw e; lent_is = rw e f }
 
   pub convert_refused : {number place : ℕ} → convert_check g out ≡ fail number place → Gives (convert_call g out) (refused number place) out
-  convert_refused e = record { answer-is = rw e; lent_is = rw e }
+  convert_refused e = record { answer_is = rw e; lent_is = rw e }

@@ -2,7 +2,8 @@
 // links. It asks nothing of its caller: it tests its input first, as the call that forms coefficients does, and a refused call changes nothing.
 //
 // Proved: the whole answer, and the lent slice, are those of crate `model` (convert_call). Its proofs/CoefficientFile: these bytes read as the film
-// that forming gives (`converted-reads`).
+// that forming gives (`converted_reads`).
+#![tactic(auto)]
 ghost use Rattle.std.specs.Prelude.{◌≡◌, length};
 ghost use Rattle.model.specs.Gauge.{factors_of, Stepped};
 ghost use Rattle.model.specs.Coefficients.{formed};

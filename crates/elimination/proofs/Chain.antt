@@ -15,10 +15,10 @@ use Rattle.model.specs.Film.{Film, film_of, size_of, beside, across, neighbours,
 use Rattle.model.specs.Estimate as paper
 use Rattle.cell.specs.declared.Cell.{Cell}
 use Rattle.grid.specs.Pull.{back_of, ahead_of, Product, cell_by, Aligned, IsCell}
-use Rattle.grid.proofs.Neighbours.{across-is}
-use Rattle.grid.proofs.Limited.{limited_edges, limited_loaded, cell-is}
+use Rattle.grid.proofs.Neighbours.{across_is}
+use Rattle.grid.proofs.Limited.{limited_edges, limited_loaded, cell_is}
 use Rattle.elimination.specs.Line.{Held, step_at}
-use Rattle.margin.proofs.Inside.{across-low}
+use Rattle.margin.proofs.Inside.{across_low}
 
 -- Coefficients of an accepted film and a field of it, as the code of a step is lent them. Which weights the film has makes no difference.
 module _ {head : Head} {diagonals rights ups : List ℕ} {sources : List ℤ} {p : List ℕ} (H : Held head diagonals rights ups sources p) where
@@ -37,25 +37,25 @@ module _ {head : Head} {diagonals rights ups : List ℕ} {sources : List ℤ} {p
 
     -- the two vertical neighbours
     module _ {x y : ℕ} (X : Product x (back_of ups p i head.columns)) (Y : Product y (ahead_of ups p i head.columns)) where
-      pub across-found : x + y ≡ pull (across bare i) (λ j. get_or p j 0)
+      pub across_found : x + y ≡ pull (across bare i) (λ j. get_or p j 0)
       unfolding across
-      across-found = omega (arith, across-is film p (limited_edges H.accepted.limited) i inside_grid)
+      across_found = omega (arith, across_is film p (limited_edges H.accepted.limited) i inside_grid)
 
-      pub across-fits : x + y ≤ 2 ^ 52
-      across-fits =
+      pub across_fits : x + y ≤ 2 ^ 52
+      across_fits =
           omega (
             arith,
-            across-found,
-            across-low bare i p held_loaded.up (λ k. omega (arith, H.bounded.low k, H.accepted.limited.sized.ceiling-low)),
+            across_found,
+            across_low bare i p held_loaded.up (λ k. omega (arith, H.bounded.low k, H.accepted.limited.sized.ceiling_low)),
           )
 
     module _ {cell : Cell} (C : IsCell cell (cell_by head.columns diagonals rights ups sources p i)) where
-      cell-found : cell ≡ record { diagonal = diagonal_at bare i; pull = pull_of bare p i; source = source_at bare i }
+      cell_found : cell ≡ record { diagonal = diagonal_at bare i; pull = pull_of bare p i; source = source_at bare i }
       unfolding neighbours beside across
-      cell-found = C.is ∙ cell-is H.accepted.limited p i inside_grid
+      cell_found = C.is ∙ cell_is H.accepted.limited p i inside_grid
 
       pub source_fits : nat_abs cell.source ≤ 2 ^ 52
-      source_fits = rw cell-found (omega (arith, (H.accepted.limited.cell i inside_grid).source_low))
+      source_fits = rw cell_found (omega (arith, (H.accepted.limited.cell i inside_grid).source_low))
 
       -- the step in a cell, from what the code has worked out of it
       pub step_is : {t : ℕ} {active : Bool} {m h k : Float} {e : paper.Elimination} (last : paper.Elimination)
@@ -64,4 +64,4 @@ module _ {head : Head} {diagonals rights ups : List ℕ} {sources : List ℤ} {p
           → m ≡ paper.float_of cell.diagonal → h ≡ of_int binary64 (neg_ℤ cell.source +ℤ pos t)
           → k ≡ paper.float_of (right_at bare (i - 1))
           → e ≡ paper.eliminate active m h k last → e ≡ step_at bare p i last
-      step_is last t a m h k e = rw (e, a, m, h, k, t, cell-found)
+      step_is last t a m h k e = rw (e, a, m, h, k, t, cell_found)

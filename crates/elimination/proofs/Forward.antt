@@ -18,7 +18,7 @@ use Rattle.model.specs.Estimate.{idle, is_broken, eliminated}
 use Rattle.model.specs.Estimate as paper
 use Rattle.chain.specs.declared.Preceding.{Preceding}
 use Rattle.chain.specs.Line.{kept_of, recall}
-use Rattle.chain.proofs.Recall.{unbroken_before, sound, sound_step, recall-is}
+use Rattle.chain.proofs.Recall.{unbroken_before, sound, sound_step, recall_is}
 use Rattle.elimination.specs.Line.{step_at, Recorded, Eliminated}
 
 -- a place that was written, and any other
@@ -35,9 +35,9 @@ module _ (f : Film) (p : List ℕ) (start : ℕ) where
   abbrev after : ℕ → paper.Elimination
   after n = eliminated f p start n
 
-  eliminated-next : (n : ℕ) → after (suc n) ≡ step_at f p (start + n) (after n)
+  eliminated_next : (n : ℕ) → after (suc n) ≡ step_at f p (start + n) (after n)
   unfolding eliminated
-  eliminated-next n = refl
+  eliminated_next n = refl
 
   sound_eliminated : (n : ℕ) → sound (after n) ≡ true
   unfolding eliminated
@@ -96,8 +96,8 @@ module _ (f : Film) (p : List ℕ) (start : ℕ) where
       here_is : here ≡ after (suc n)
       here_is =
           s
-          ∙ ap (step_at f p (start + n)) (rw G.handed (recall-is (after n) G.unbroken (sound_eliminated n)))
-          ∙ sym (eliminated-next n)
+          ∙ ap (step_at f p (start + n)) (rw G.handed (recall_is (after n) G.unbroken (sound_eliminated n)))
+          ∙ sym (eliminated_next n)
 
       pub going_next : {next : Preceding} → columns ≤ length pivots₀ → columns ≤ length sides₀ → is_broken here ≡ false → next ≡ kept_of here
           → Going columns pivots₀ sides₀ (n + 1) (set pivots n next.g) (set sides n next.h) next
@@ -136,7 +136,7 @@ module _ (f : Film) (p : List ℕ) (start : ℕ) where
   recalled_is E k h =
       let R = E.kept refl in
       rw (R.pivot k h, R.side k h)
-      (recall-is (after (suc k)) (unbroken_below f.columns (sym E.broken) (suc k) h) (sound_eliminated (suc k)))
+      (recall_is (after (suc k)) (unbroken_below f.columns (sym E.broken) (suc k) h) (sound_eliminated (suc k)))
 
 -- where it is known whether the line broke
 pub line_known : {f : Film} {p : List ℕ} {start : ℕ} {broke known : Bool} {pivots sides : List Float} → broke ≡ known
@@ -145,21 +145,21 @@ line_known e E = record { broken = sym e ∙ E.broken; kept = λ z. E.kept (e �
 
 -- which weights a film has makes no difference to the elimination
 module _ (head : Head) (weights diagonals rights ups : List ℕ) (sources : List ℤ) (p : List ℕ) (start : ℕ) where
-  eliminated-weights : (n : ℕ)
+  eliminated_weights : (n : ℕ)
       → eliminated (film_of head [] diagonals rights ups sources) p start n
       ≡ eliminated (film_of head weights diagonals rights ups sources) p start n
   unfolding eliminated neighbours beside across
-  eliminated-weights zero = refl
-  eliminated-weights (suc n) = ap (step_at (film_of head [] diagonals rights ups sources) p (start + n)) (eliminated-weights n)
+  eliminated_weights zero = refl
+  eliminated_weights (suc n) = ap (step_at (film_of head [] diagonals rights ups sources) p (start + n)) (eliminated_weights n)
 
-  pub line-weights : {broke : Bool} {pivots sides : List Float}
+  pub line_weights : {broke : Bool} {pivots sides : List Float}
       → Eliminated (film_of head [] diagonals rights ups sources) p start broke pivots sides
       → Eliminated (film_of head weights diagonals rights ups sources) p start broke pivots sides
-  line-weights E =
+  line_weights E =
       record {
-        broken = E.broken ∙ ap is_broken (eliminated-weights _);
+        broken = E.broken ∙ ap is_broken (eliminated_weights _);
         kept = λ z. let R = E.kept z in record {
-          pivot = λ k h. R.pivot k h ∙ ap (λ (e : paper.Elimination). (kept_of e).g) (eliminated-weights (suc k));
-          side = λ k h. R.side k h ∙ ap (λ (e : paper.Elimination). (kept_of e).h) (eliminated-weights (suc k));
+          pivot = λ k h. R.pivot k h ∙ ap (λ (e : paper.Elimination). (kept_of e).g) (eliminated_weights (suc k));
+          side = λ k h. R.side k h ∙ ap (λ (e : paper.Elimination). (kept_of e).h) (eliminated_weights (suc k));
         };
       }

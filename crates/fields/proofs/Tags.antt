@@ -15,9 +15,9 @@ use Rattle.model.specs.CoefficientFile.{diagonals_field, rights_field, ups_field
 use Rattle.model.specs.declared.Refusal.{Refusal}
 use Rattle.model.specs.declared.Tested.{Tested}
 use Rattle.model.specs.declared.Tested.TheVariants.{Fine, Refused}
-use Rattle.model.proofs.Checks.{or_else_parts, fail_if-pass}
+use Rattle.model.proofs.Checks.{or_else_parts, fail_if_pass}
 use Rattle.model.proofs.Fields.{header}
-use Rattle.model.proofs.Opening.{carried-low}
+use Rattle.model.proofs.Opening.{carried_low}
 use Rattle.refusals.proofs.Chain.{or_else_given, goes_on, refuses}
 use Rattle.fields.specs.declared.Walked.{Walked}
 use Rattle.fields.specs.Tags.{plain_field, unknown, field_for, Tries}
@@ -29,7 +29,7 @@ either_low false x y h l = l
 pub size_low : (bytes : List ℕ) (tag n t : ℕ) → n ≤ 65025 → t ≤ 66049 → (field_for bytes tag n t).size ≤ 520200
 size_low bytes tag n t h l =
     either_low (eqb tag 1) shape_field _ (omega arith) (either_low (eqb tag 2) ceiling_field _ (omega arith)
-    (either_low (eqb tag 3) (weights_field (carried bytes n)) _ (omega (arith, carried-low bytes n)) (either_low (eqb tag 4) (thicknesses_field t) _ (omega arith)
+    (either_low (eqb tag 3) (weights_field (carried bytes n)) _ (omega (arith, carried_low bytes n)) (either_low (eqb tag 4) (thicknesses_field t) _ (omega arith)
     (either_low (eqb tag 5) wedge_field _ (omega arith) (either_low (eqb tag 6) (diagonals_field n) _ (omega arith)
     (either_low (eqb tag 7) (rights_field n) _ (omega arith) (either_low (eqb tag 8) (ups_field n) _ (omega arith)
     (either_low (eqb tag 9) (sources_field n) _ (omega arith) (either_low (eqb tag 10) steps_field _ (omega arith) (omega arith))))))))))
@@ -40,8 +40,8 @@ module _ (f : Field) {l : List ℕ} {at tag : ℕ} {h : Tested} (found : check_o
   pub field_tried : {v : Tested} → h ≡ Fine → check_of v ≡ f.check l (body at) → Tries f tag l at (record { tested = v; next = behind at f.size })
   field_tried e values = record { finds = goes_on found e values; goes_on = λ p. refl }
 
-  pub field-refused : {r : Refusal} {next : ℕ} → h ≡ Refused r → Tries f tag l at (record { tested = Refused r; next = next })
-  field-refused e = record { finds = refuses found _ e; goes_on = λ p. cc }
+  pub field_refused : {r : Refusal} {next : ℕ} → h ≡ Refused r → Tries f tag l at (record { tested = Refused r; next = next })
+  field_refused e = record { finds = refuses found _ e; goes_on = λ p. cc }
 
 -- The test of a field depends on its length and on the test of its values alone. So that of a plain field is that of every field with its
 -- length whose values are not tested: those of tags 6, 7 and 8, and what stands for any tag above 10.
@@ -90,19 +90,19 @@ module _ (l : List ℕ) (at tag n t : ℕ) where
       or_else_given (fail_if (ltb (length l) (body at)) 1 (length l))
       (λ _. or_else_given (fail_if (not (eqb (byte_at l at) tag)) 2 at)
       (λ e.
-      let same : byte_at l at ≡ tag = eqb-true _ _ (not-false _ (fail_if-pass _ 2 at e)) in
+      let same : byte_at l at ≡ tag = eqb-true _ _ (not-false _ (fail_if_pass _ 2 at e)) in
       ap (λ k. fail_if (not (eqb (word_at l (at + 1)) (named k).size)) 3 at
       or_else fail_if (ltb (length l) (behind at (named k).size)) 1 (length l)) same))
 
-  tag-found : headed (byte_at l at) ≡ pass → byte_at l at ≡ tag
-  tag-found e = (header l at tag (named (byte_at l at)).size e).tag_is
+  tag_found : headed (byte_at l at) ≡ pass → byte_at l at ≡ tag
+  tag_found e = (header l at tag (named (byte_at l at)).size e).tag_is
 
   pub tries_found : {w : Walked} → Tries (named (byte_at l at)) tag l at w → Tries (named tag) tag l at w
   tries_found T =
-      let values = or_else_given (headed (byte_at l at)) (λ e. ap (λ k. (named k).check l (body at)) (tag-found e)) in
+      let values = or_else_given (headed (byte_at l at)) (λ e. ap (λ k. (named k).check l (body at)) (tag_found e)) in
       record {
         finds = T.finds ∙ values ∙ ap (λ c. c or_else (named tag).check l (body at)) length_found;
         goes_on = λ p.
-            let same = tag-found (or_else_parts (headed (byte_at l at)) _ (sym T.finds ∙ p)).0 in
+            let same = tag_found (or_else_parts (headed (byte_at l at)) _ (sym T.finds ∙ p)).0 in
             T.goes_on p ∙ ap (λ k. behind at (named k).size) same;
       }

@@ -36,5 +36,5 @@ pub record Tries (f : Field) (tag : ℕ) (bytes : List ℕ) (at : ℕ) (w : Walk
 -- Sides of up to 255 stand in a file before they are tested, and so the offsets behind its fields are small numbers all the same.
 pub record Room (at n t : ℕ) : Type 0 where
   pub at_low : at ≤ 5000000
-  pub cells-few : n ≤ 65025
+  pub cells_few : n ≤ 65025
   pub ring_few : t ≤ 66049

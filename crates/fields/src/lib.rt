@@ -5,6 +5,7 @@
 // Proved: what a field's test finds is what crate `model` says of the field with that tag, and where it passes the next field stands
 // behind this one (`Tries`), at every offset of every file. Values are tested once the whole body is there (crate `values`); so no file that
 // is cut short needs a case of its own.
+#![tactic(auto)]
 ghost use Rattle.std.specs.Prelude.{◌≤◌};
 ghost use Rattle.model.specs.File.{shape_field, ceiling_field, weights_field, thicknesses_field, wedge_field, steps_field};
 ghost use Rattle.fields.specs.Tags.{plain_field, field_for, Tries, Room};
@@ -12,7 +13,7 @@ ghost use Rattle.fields.specs.Tags.{plain_field, field_for, Tries, Room};
 use model::Tested;
 
 // What the test of a field has found, and the offset behind the field.
-#[derive(Drop)]
+#[derive(Clone, Copy)]
 pub struct Walked {
     pub tested: Tested,
     pub next: usize,

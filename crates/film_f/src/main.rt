@@ -1,5 +1,6 @@
 // Plays film F at its edges (document 01), starred and unstarred, through the public calls, and prints what they answer. The file
 // `stdout` beside src/ was written from document 01 by hand: each line's comment there is the document's.
+#![tactic(auto)]
 use libc::STDOUT_FILENO;
 use model::{Counts, Head, Margin, Proposed, Ran, Refusal, Relaxed, Slack};
 

@@ -1,6 +1,7 @@
 // Plays film F as a coefficient film (document 02, W1) through the public calls, and prints what they answer: the converter's file, what the
 // reader lays over its buffers, the file written back, and refusals. The file `stdout` beside src/ was made from
 // the documents, and not from what the program prints.
+#![tactic(auto)]
 use libc::STDOUT_FILENO;
 use model::{Head, LoadedCoefficients, Refusal, Saved, Steps};
 

@@ -4,6 +4,7 @@
 //
 // data/, args and stdout are written by tests/film_files.py, from documents 01 and 02 alone: it shares no line with this program, works
 // in Python's whole numbers, and each faulty file carries its refusal's number and place written by hand.
+#![tactic(auto)]
 use libc::STDOUT_FILENO;
 use model::{Formed, Head, Loaded, Refusal, Saved, Steps};
 

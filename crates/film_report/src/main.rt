@@ -2,6 +2,7 @@
 //
 // It reads 65,536 bytes, or fewer if the input ends before. What lies beyond the first 22,556 cannot change the report: the longest accepted
 // film has 22,555 bytes, and model/proofs/Prefix (report-prefix) shows it of every list of bytes.
+#![tactic(auto)]
 ghost use Rattle.std.specs.Prelude.{◌≤◌, length};
 ghost use Rattle.model.specs.ReportCall.{longest_report};
 

@@ -4,7 +4,7 @@ use mathlib.Core.Bool.{true, false}
 use mathlib.Core.List.{List, ◌++◌}
 use Prim.Native.Nat.{ℕ, zero, suc, ◌<◌}
 use lib.ListN.{length, replicate}
-use Rattle.monotone.proofs.History.{zeros-bounded}
+use Rattle.monotone.proofs.History.{zeros_bounded}
 use Rattle.model.specs.Refusals.{pass}
 use Rattle.model.specs.Film.{Film, size_of, rule, beside, across, neighbours}
 use Rattle.model.specs.Checks.{order_check}
@@ -14,8 +14,8 @@ use Rattle.model.specs.Run.{RunAnswer, done, stopped, over, run_call}
 use Rattle.model.specs.Report.{cell_line, cell_lines, answer_text, report_budget, report_run}
 use Rattle.model.specs.declared.Counts.{Counts}
 use Rattle.model.proofs.Bare.{bare}
-use Rattle.model.proofs.Run.{run_good, run-over}
-use Rattle.model.proofs.Forming.{field-accepted}
+use Rattle.model.proofs.Run.{run_good, run_over}
+use Rattle.model.proofs.Forming.{field_accepted}
 use Rattle.render.specs.Answer.{Inside, text_of}
 
 -- weights count for nothing in the text after a report's head
@@ -49,16 +49,16 @@ module _ (f : Film) (A : Accepted f) where
   -- no test refuses it
   run_passes : run_call f report_budget 0 false zeros ≡ unrefused (report_run f)
   run_passes =
-      ap (λ x. call_by x (report_run f) zeros) (field-accepted f zeros true (order_check 0) pass A (zeros-bounded (rule f)))
+      ap (λ x. call_by x (report_run f) zeros) (field_accepted f zeros true (order_check 0) pass A (zeros_bounded (rule f)))
 
   pub run_reports : {field p : List ℕ} {a : Answer RunAnswer} → field ≡ zeros → Gives (run_call f report_budget 0 false field) a p → Reports f a p
   run_reports {field} {p} {a} e G =
       let call : run_call f report_budget 0 false field ≡ unrefused (report_run f) = ap (λ (q : List ℕ). run_call f report_budget 0 false q) e ∙ run_passes in
-      let answer : a ≡ answered (report_run f).answer = G.answer-is ∙ ap (λ r. r.answer) call in
-      let lent : p ≡ (report_run f).lent = G.Lent-is ∙ ap (λ r. r.lent) call in
-      let B = zeros-bounded (rule f) in
+      let answer : a ≡ answered (report_run f).answer = G.answer_is ∙ ap (λ r. r.answer) call in
+      let lent : p ≡ (report_run f).lent = G.lent_is ∙ ap (λ r. r.lent) call in
+      let B = zeros_bounded (rule f) in
       record {
         len = ap length lent ∙ (run_good f A report_budget 0 false zeros B).rises.bounded.len;
-        inside = subst (Inside (size_of f)) (sym answer) (named (size_of f) (report_run f).answer (run-over f A report_budget 0 false zeros B));
+        inside = subst (Inside (size_of f)) (sym answer) (named (size_of f) (report_run f).answer (run_over f A report_budget 0 false zeros B));
         text = sym (λ k. text_of f (answer k) (lent k));
       }

@@ -5,5 +5,5 @@ use lib.ListN.{take, replicate}
 use Rattle.model.proofs.Lists.{take_same}
 
 -- the start of a field of zeros
-pub take-zeros : (n m : ℕ) {k : ℕ} → n ≤ m → n ≡ k → take {A = ℕ} n (replicate m 0) ≡ replicate k 0
-take-zeros = take_same 0
+pub take_zeros : (n m : ℕ) {k : ℕ} → n ≤ m → n ≡ k → take {A = ℕ} n (replicate m 0) ≡ replicate k 0
+take_zeros = take_same 0

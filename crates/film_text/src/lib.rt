@@ -1,6 +1,7 @@
 // The report's text of an accepted film: its head, one run on a field of zeros, and what the run answered. Internal: `gauged_report` and `coefficient_report` call it.
 //
 // Proved: the text is that of crate `model` (film_report), byte for byte.
+#![tactic(auto)]
 ghost use Rattle.std.specs.Prelude.{◌≡◌, ◌*◌, replicate};
 ghost use Rattle.model.specs.Film.{film_of};
 ghost use Rattle.model.specs.Accepted.{Accepted};

@@ -1,5 +1,6 @@
 // The steps between whole numbers and binary64 that the estimate of a line takes. The promises cite lib.Ieee, the logic's
 // account of IEEE 754, and the crate `model`'s Estimate.
+#![tactic(auto)]
 
 ghost use Rattle.std.specs.Prelude.{◌≡◌, true, ◌≤◌, ◌^◌};
 ghost use Rattle.std.specs.Float.{binary64};

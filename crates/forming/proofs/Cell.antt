@@ -14,11 +14,11 @@ use Rattle.stencil.specs.declared.Around.{Around}
 -- ---- where the thicknesses around cell (r, c) stand, in rows of C columns and the ring
 
 -- the places in the row before and in the next one
-down-place : (C r c : ℕ) → 1 ≤ r → r * (C + 2) + c - (C + 2) ≡ (r - 1) * (C + 2) + c
-down-place C r c h = omega (arith, row_end (C + 2) r h)
+down_place : (C r c : ℕ) → 1 ≤ r → r * (C + 2) + c - (C + 2) ≡ (r - 1) * (C + 2) + c
+down_place C r c h = omega (arith, row_end (C + 2) r h)
 
-up-place : (C r c : ℕ) → r * (C + 2) + c + (C + 2) ≡ (r + 1) * (C + 2) + c
-up-place C r c = omega (arith, add-mul r 1 (C + 2), one-mul (C + 2))
+up_place : (C r c : ℕ) → r * (C + 2) + c + (C + 2) ≡ (r + 1) * (C + 2) + c
+up_place C r c = omega (arith, add-mul r 1 (C + 2), one-mul (C + 2))
 
 -- at most 1,156 thicknesses
 pub ring_low : (R C : ℕ) → R ≤ side_limit → C ≤ side_limit → (R + 2) * (C + 2) ≤ 1156
@@ -40,11 +40,11 @@ module _ (g : Gauge) (r c : ℕ) (h : (1 ≤ r) × (r ≤ g.rows) × (1 ≤ c) �
         last =
             omega (
               arith,
-              s.thicknesses-len,
-              up-place C r c,
+              s.thicknesses_len,
+              up_place C r c,
               digits_lt {q = r + 1} {m = R + 2} {r = c} {c = C + 2} (omega arith) (omega arith),
             );
-        small = omega (arith, s.thicknesses-len, ring_low R C s.rows-low s.columns-low);
+        small = omega (arith, s.thicknesses_len, ring_low R C s.rows_low s.columns_low);
       }
 
   -- what the code reads there is what document 01 names
@@ -61,4 +61,4 @@ module _ (g : Gauge) (r c : ℕ) (h : (1 ≤ r) × (r ≤ g.rows) × (1 ≤ c) �
   around_is =
       let left : r * (g.columns + 2) + c - 1 ≡ r * (g.columns + 2) + (c - 1) = omega arith in
       let right : r * (g.columns + 2) + c + 1 ≡ r * (g.columns + 2) + (c + 1) = omega arith in
-      rw (left, right, down-place g.columns r c h.0, up-place g.columns r c)
+      rw (left, right, down_place g.columns r c h.0, up_place g.columns r c)

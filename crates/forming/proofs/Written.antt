@@ -13,9 +13,9 @@ use Rattle.forming.specs.Cell.{coefficients_at, Room, FormedTo}
 use Rattle.stencil.specs.declared.Coefficients.{Coefficients}
 
 -- a number of cell (r, c) stands at its index
-pub by-cell : {A : Type 0} (g : Gauge) (number : ℕ → ℕ → A) (r c : ℕ) → 1 ≤ r → c < g.columns
+pub by_cell_lem : {A : Type 0} (g : Gauge) (number : ℕ → ℕ → A) (r c : ℕ) → 1 ≤ r → c < g.columns
     → by_cell g number ((r - 1) * g.columns + c) ≡ number r (c + 1)
-by-cell g number r c h l =
+by_cell_lem g number r c h l =
     ap₂ number (ap (λ (t : ℕ). t + 1) (digits_div (r - 1) l) ∙ omega arith) (ap (λ (t : ℕ). t + 1) (digits_mod (r - 1) l))
 
 -- what holds where the coefficients of the first i cells are written, from the slices at entry to those now
@@ -48,13 +48,13 @@ module _ (g : Gauge) {diagonals₀ rights₀ ups₀ : List ℕ} {sources₀ : Li
         }
 
     -- there is still room
-    pub written-room : {n : ℕ} → Room n diagonals₀ rights₀ ups₀ sources₀ → Room n diagonals rights ups sources
-    written-room r =
+    pub written_room : {n : ℕ} → Room n diagonals₀ rights₀ ups₀ sources₀ → Room n diagonals rights ups sources
+    written_room r =
         record {
-          diagonals-room = omega (arith, r.diagonals-room, w.diagonal.len);
-          rights-room = omega (arith, r.rights-room, w.right.len);
-          ups-room = omega (arith, r.ups-room, w.up.len);
-          sources-room = omega (arith, r.sources-room, w.source.len);
+          diagonals_room = omega (arith, r.diagonals_room, w.diagonal.len);
+          rights_room = omega (arith, r.rights_room, w.right.len);
+          ups_room = omega (arith, r.ups_room, w.up.len);
+          sources_room = omega (arith, r.sources_room, w.source.len);
         }
 
     -- one more cell, that in row r and column c + 1
@@ -64,14 +64,14 @@ module _ (g : Gauge) {diagonals₀ rights₀ ups₀ : List ℕ} {sources₀ : Li
         → Written g (i + 1) diagonals₀ rights₀ ups₀ sources₀ (set diagonals i x.diagonal) (set rights i x.right) (set ups i x.up) (set sources i z)
     written_more m h r c l k p e s =
         record {
-          diagonal = fill_more _ (omega (arith, m.diagonals-room)) (ap (λ (y : Coefficients). y.diagonal) e ∙ here (formed_diagonal g)) w.diagonal;
-          right = fill_more _ (omega (arith, m.rights-room)) (ap (λ (y : Coefficients). y.right) e ∙ here (formed_right g)) w.right;
-          up = fill_more _ (omega (arith, m.ups-room)) (ap (λ (y : Coefficients). y.up) e ∙ here (formed_up g)) w.up;
-          source = fill_more _ (omega (arith, m.sources-room)) (s ∙ ap (λ (y : Coefficients). y.source) e ∙ here (formed_source g)) w.source;
+          diagonal = fill_more _ (omega (arith, m.diagonals_room)) (ap (λ (y : Coefficients). y.diagonal) e ∙ here (formed_diagonal g)) w.diagonal;
+          right = fill_more _ (omega (arith, m.rights_room)) (ap (λ (y : Coefficients). y.right) e ∙ here (formed_right g)) w.right;
+          up = fill_more _ (omega (arith, m.ups_room)) (ap (λ (y : Coefficients). y.up) e ∙ here (formed_up g)) w.up;
+          source = fill_more _ (omega (arith, m.sources_room)) (s ∙ ap (λ (y : Coefficients). y.source) e ∙ here (formed_source g)) w.source;
         }
       where
         here : {A : Type 0} (number : ℕ → ℕ → A) → number r (c + 1) ≡ by_cell g number i
-        here number = sym (ap (by_cell g number) p ∙ by-cell g number r c l k)
+        here number = sym (ap (by_cell g number) p ∙ by_cell_lem g number r c l k)
 
     -- so far from the slices at entry, if they were written from others before
     pub written_on : {i' : ℕ} {diagonals' rights' ups' : List ℕ} {sources' : List ℤ} → FormedTo i' g diagonals' rights' ups' sources'

@@ -26,18 +26,18 @@ coefficients_at g r c = coefficients_of (around_of g r c) (factors_of g.steps) g
 
 -- a shape that has passed its test, with a thickness for each place of the grid and its ring
 pub record Ringed (rows columns : ℕ) (thicknesses : List ℕ) : Type 0 where
-  pub rows-some : 1 ≤ rows
-  pub rows-low : rows ≤ side_limit
-  pub columns-some : 1 ≤ columns
-  pub columns-low : columns ≤ side_limit
-  pub thicknesses-len : length thicknesses ≡ ringed rows columns
+  pub rows_some : 1 ≤ rows
+  pub rows_low : rows ≤ side_limit
+  pub columns_some : 1 ≤ columns
+  pub columns_low : columns ≤ side_limit
+  pub thicknesses_len : length thicknesses ≡ ringed rows columns
 
 -- there is room for n numbers in each of the four lists
 pub record Room (n : ℕ) (diagonals rights ups : List ℕ) (sources : List ℤ) : Type 0 where
-  pub diagonals-room : n ≤ length diagonals
-  pub rights-room : n ≤ length rights
-  pub ups-room : n ≤ length ups
-  pub sources-room : n ≤ length sources
+  pub diagonals_room : n ≤ length diagonals
+  pub rights_room : n ≤ length rights
+  pub ups_room : n ≤ length ups
+  pub sources_room : n ≤ length sources
 
 -- the four lists begin with the coefficients of a film's first n cells
 pub record FormedTo (n : ℕ) (g : Gauge) (diagonals rights ups : List ℕ) (sources : List ℤ) : Type 0 where

@@ -10,7 +10,7 @@ use Rattle.model.specs.Refusals.{Check, pass, fail_if, ◌or_else◌}
 use Rattle.model.specs.Checks.{shape_check, ceiling_check}
 use Rattle.model.specs.File.{cells, ringed, rows_offset, columns_offset, ceiling_offset, wedge_offset, weights_check, thicknesses_check, wedge_check, gauge_dominance, gauge_check}
 use Rattle.model.specs.FileCalls.{gauge_fits}
-use Rattle.model.proofs.Checks.{and_parts, or_else_assoc, or_else_parts, fail_if-pass}
+use Rattle.model.proofs.Checks.{and_parts, or_else_assoc, or_else_parts, fail_if_pass}
 use Rattle.model.proofs.Sides.{cells_low}
 use Rattle.model.proofs.File.{gauge_shape, stepped}
 use Rattle.forming.specs.Cell.{Ringed}
@@ -22,23 +22,23 @@ module _ {g : Gauge} (m : Measured g) where
   measured_ringed =
       let s = gauge_shape g m.shape in
       record {
-        rows-some = s.rows-some;
-        rows-low = s.rows-low;
-        columns-some = s.columns-some;
-        columns-low = s.columns-low;
-        thicknesses-len = m.thicknesses-len;
+        rows_some = s.rows_some;
+        rows_low = s.rows_low;
+        columns_some = s.columns_some;
+        columns_low = s.columns_low;
+        thicknesses_len = m.thicknesses_len;
       }
 
   -- at most 1,024 weights and 1,156 thicknesses
-  pub weights-low : length g.weights ≤ 1024
-  weights-low =
+  pub weights_low : length g.weights ≤ 1024
+  weights_low =
       let s = gauge_shape g m.shape in
-      omega (arith, m.weights-len, cells_low g.rows g.columns s.rows-low s.columns-low)
+      omega (arith, m.weights_len, cells_low g.rows g.columns s.rows_low s.columns_low)
 
-  pub thicknesses-low : length g.thicknesses ≤ 1156
-  thicknesses-low =
+  pub thicknesses_low : length g.thicknesses ≤ 1156
+  thicknesses_low =
       let s = gauge_shape g m.shape in
-      omega (arith, m.thicknesses-len, ring_low g.rows g.columns s.rows-low s.columns-low)
+      omega (arith, m.thicknesses_len, ring_low g.rows g.columns s.rows_low s.columns_low)
 
 -- the lengths, where the shape has passed and refusal 10 is not found
 pub lengths_pass : (g : Gauge) (fits : Bool) → shape_check g.rows rows_offset g.columns columns_offset ≡ pass → (gauge_fits g && fits) ≡ true
@@ -46,7 +46,7 @@ pub lengths_pass : (g : Gauge) (fits : Bool) → shape_check g.rows rows_offset 
 lengths_pass g fits e f =
     let both = and_parts (gauge_fits g) fits f in
     let lengths = and_parts _ _ both.0 in
-    record { shape = e; weights-len = eqb-true _ _ lengths.0; thicknesses-len = eqb-true _ _ lengths.1 }
+    record { shape = e; weights_len = eqb-true _ _ lengths.0; thicknesses_len = eqb-true _ _ lengths.1 }
 
 -- steps that have passed
 pub numbers_stepped : (g : Gauge) → numbers_check g ≡ pass → Stepped (factors_of g.steps)
@@ -69,6 +69,6 @@ unfolding gauge_check
 gauge_measured g fits e =
     let shape = or_else_parts (shape_check g.rows rows_offset g.columns columns_offset) _ e in
     let lengths = or_else_parts (fail_if (not (gauge_fits g && fits)) 10 0) _ shape.1 in
-    let f = not-false _ (fail_if-pass _ 10 0 lengths.0) in
+    let f = not-false _ (fail_if_pass _ 10 0 lengths.0) in
     let tests : numbers_check g or_else gauge_dominance g ≡ pass = simp or_else_assoc lengths.1 in
     (lengths_pass g fits shape.0 f, (and_parts (gauge_fits g) fits f).1, numbers_stepped g (or_else_parts (numbers_check g) _ tests).0)

@@ -25,5 +25,5 @@ sized_check g fits = fail_if (not (gauge_fits g && fits)) 10 0 or_else values_ch
 -- the shape has passed its test, and the film's two slices have their lengths
 pub record Measured (g : Gauge) : Type 0 where
   pub shape : shape_check g.rows rows_offset g.columns columns_offset ≡ pass
-  pub weights-len : length g.weights ≡ cells g.rows g.columns
-  pub thicknesses-len : length g.thicknesses ≡ ringed g.rows g.columns
+  pub weights_len : length g.weights ≡ cells g.rows g.columns
+  pub thicknesses_len : length g.thicknesses ≡ ringed g.rows g.columns

@@ -32,6 +32,6 @@ read_report {bytes} {w} {t} {w'} {t'} {h} {wedge} {steps} B L =
     record { values = v.0; passes = v.1; text = ap (λ r. report_by (formed_by r)) reads }
 
 -- .. or of its refusal
-pub refusal-report : {bytes w t w' t' : List ℕ} {number place : ℕ} → length w ≡ 1024 → length t ≡ 1156
+pub refusal_report : {bytes w t w' t' : List ℕ} {number place : ℕ} → length w ≡ 1024 → length t ≡ 1156
     → Loads bytes w t (refused number place) w' t' → report_by (formed_by (read_film bytes)) ≡ refused_line number place
-refusal-report {bytes} {w} {t} {w'} {t'} {number} {place} n m L = ap (λ r. report_by (formed_by r)) (read_refusal bytes w t w' t' number place n m L)
+refusal_report {bytes} {w} {t} {w'} {t'} {number} {place} n m L = ap (λ r. report_by (formed_by r)) (read_refusal bytes w t w' t' number place n m L)

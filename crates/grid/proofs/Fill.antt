@@ -7,7 +7,7 @@ use native.Mathlib.Omega.{arith}
 use lib.ListN.{length, get_or, set, take, length-set}
 use lib.Seq.{take-suc-set}
 use Rattle.model.specs.Lists.{tabulate}
-use Rattle.model.proofs.Lists.{tabulate-is}
+use Rattle.model.proofs.Lists.{tabulate_is}
 
 -- the first i places hold g 0, g 1, .., and the table is as long as it was
 pub record Filled {A : Type 0} (g : ℕ → A) (i : ℕ) (before after : List A) : Type 0 where
@@ -15,9 +15,9 @@ pub record Filled {A : Type 0} (g : ℕ → A) (i : ℕ) (before after : List A)
   pub len : length after ≡ length before
 
 module _ {A : Type 0} where
-  tabulate-suc : (n : ℕ) (g : ℕ → A) → tabulate (suc n) g ≡ tabulate n g ++ g n ∷ []
-  tabulate-suc zero g = refl
-  tabulate-suc (suc n) g = ap (λ (l : List A). g 0 ∷ l) (tabulate-suc n (λ i. g (suc i)))
+  tabulate_suc : (n : ℕ) (g : ℕ → A) → tabulate (suc n) g ≡ tabulate n g ++ g n ∷ []
+  tabulate_suc zero g = refl
+  tabulate_suc (suc n) g = ap (λ (l : List A). g 0 ∷ l) (tabulate_suc n (λ i. g (suc i)))
 
   pub fill_none : (g : ℕ → A) (before : List A) → Filled g 0 before before
   fill_none g before = record { front = refl; len = refl }
@@ -27,10 +27,10 @@ module _ {A : Type 0} where
       → Filled g (i + 1) before (set after i v)
   fill_more g {i} {v} {before} {after} h e f =
       record {
-        front = rw (add-one, take-suc-set after i v (omega arith), f.front, e) (sym (tabulate-suc i g));
+        front = rw (add-one, take-suc-set after i v (omega arith), f.front, e) (sym (tabulate_suc i g));
         len = length-set after i v ∙ f.len;
       }
 
 -- the first n places hold a list's elements: they are that list
 pub fill_copy : (l : List ℕ) {before after : List ℕ} → Filled (λ k. get_or l k 0) (length l) before after → take (length l) after ≡ l
-fill_copy l f = f.front ∙ sym (tabulate-is (length l) (λ k. get_or l k 0) 0 l refl (λ i h. refl))
+fill_copy l f = f.front ∙ sym (tabulate_is (length l) (λ k. get_or l k 0) 0 l refl (λ i h. refl))

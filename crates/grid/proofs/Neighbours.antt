@@ -80,9 +80,9 @@ module _ (f : Film) (x : List ℕ) (e : Edges f) (k : ℕ) (b : k < size_of f) w
             back_some f.ups x k f.columns (omega arith) ∙ sym (cond_yes _ _ _ l)
       ]
 
-  beside-is : back_of f.rights x k 1 + ahead_of f.rights x k 1 ≡ pull (beside f k) (λ j. get_or x j 0)
+  beside_is : back_of f.rights x k 1 + ahead_of f.rights x k 1 ≡ pull (beside f k) (λ j. get_or x j 0)
   unfolding beside
-  beside-is =
+  beside_is =
       let at : ℕ → ℕ = λ j. get_or x j 0 in
       omega (
         arith,
@@ -94,9 +94,9 @@ module _ (f : Film) (x : List ℕ) (e : Edges f) (k : ℕ) (b : k < size_of f) w
       )
 
   -- the part of it that comes from the rows before and after
-  pub across-is : back_of f.ups x k f.columns + ahead_of f.ups x k f.columns ≡ pull (across f k) (λ j. get_or x j 0)
+  pub across_is : back_of f.ups x k f.columns + ahead_of f.ups x k f.columns ≡ pull (across f k) (λ j. get_or x j 0)
   unfolding across
-  across-is =
+  across_is =
       let at : ℕ → ℕ = λ j. get_or x j 0 in
       omega (
         arith,
@@ -107,6 +107,6 @@ module _ (f : Film) (x : List ℕ) (e : Edges f) (k : ℕ) (b : k < size_of f) w
         pull_if (ltb (row_of f k + 1) f.rows) (k + f.columns) (up_at f k) at,
       )
 
-  pub pull-is : pull_by f.columns f.rights f.ups x k ≡ pull_of f x k
+  pub pull_is : pull_by f.columns f.rights f.ups x k ≡ pull_of f x k
   unfolding pull_by neighbours
-  pull-is = omega (arith, beside-is, across-is, pull_append (beside f k) (across f k) (λ j. get_or x j 0))
+  pull_is = omega (arith, beside_is, across_is, pull_append (beside f k) (across f k) (λ j. get_or x j 0))

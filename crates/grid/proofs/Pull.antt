@@ -37,9 +37,9 @@ loads i r L h e p =
       is = e;
       bounded = record {
         some = rw e c.some;
-        diagonal = rw e c.diagonal-low;
+        diagonal = rw e c.diagonal_low;
         pull = p;
-        positive = rw e c.positive-low;
-        negative = rw e c.negative-low;
+        positive = rw e c.positive_low;
+        negative = rw e c.negative_low;
       };
     }

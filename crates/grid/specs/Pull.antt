@@ -32,17 +32,17 @@ cell_by columns diagonals rights ups sources numbers i =
 -- a diagonal and a source within the limits that a cell asks for
 pub record Limits (diagonal : ℕ) (source : ℤ) : Type 0 where
   pub some : 0 < diagonal
-  pub diagonal-low : diagonal ≤ 2 ^ 28
-  pub positive-low : positive_part source ≤ 2 ^ 60
-  pub negative-low : negative_part source ≤ 2 ^ 60
+  pub diagonal_low : diagonal ≤ 2 ^ 28
+  pub positive_low : positive_part source ≤ 2 ^ 60
+  pub negative_low : negative_part source ≤ 2 ^ 60
 
 -- coefficients for each of the numbers
 pub record Aligned (columns : ℕ) (diagonals rights ups : List ℕ) (sources : List ℤ) (numbers : List ℕ) : Type 0 where
   pub right : Links rights numbers
   pub up : Links ups numbers
-  pub diagonals-len : length diagonals ≡ length numbers
-  pub sources-len : length sources ≡ length numbers
-  pub columns-low : columns ≤ 2 ^ 32
+  pub diagonals_len : length diagonals ≡ length numbers
+  pub sources_len : length sources ≡ length numbers
+  pub columns_low : columns ≤ 2 ^ 32
   pub cell : (i : ℕ) → i < length numbers → Limits (get_or diagonals i 0) (get_or sources i (pos 0))
 
 -- r is that cell, and within its limits

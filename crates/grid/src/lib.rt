@@ -4,6 +4,7 @@
 // Links that leave the grid are 0 (refusal 14 sees to it), so the pull needs no rows and columns: the neighbours of cell i are
 // i − 1, i + 1, i − C and i + C, as far as there are such cells. proofs/Neighbours shows that this is the sum over the
 // neighbours inside the grid.
+#![tactic(auto)]
 ghost use Rattle.std.specs.Prelude.{◌≡◌, List, [], ℕ, ◌+◌, ◌-◌, ◌*◌, ◌≤◌, ◌<◌, ◌^◌, length, take};
 ghost use Rattle.model.specs.Film.{film_of, slack};
 ghost use Rattle.model.specs.Accepted.{Limited};

@@ -2,6 +2,7 @@
 // every kind of file call it, and the readers.
 //
 // Proved: what is found is what crate `model` says of a header (`field_at`), at every offset of every file, and of the weights (`weightless`, `carried`).
+#![tactic(auto)]
 ghost use Rattle.std.specs.Prelude.{◌≡◌, ◌≤◌};
 ghost use Rattle.model.specs.Refusals.{check_of};
 ghost use Rattle.model.specs.Fields.{field_at};

@@ -1,6 +1,7 @@
 // Refusal 14, of films given by coefficients: each cell's diagonal, links and source within their limits, and no link that leaves the
 // grid. Internal: crates `checks` and `coefficient_tests` call it where shape and lengths have passed. That sums fit, and that a cell's neighbours are found by
 // index alone, rests on it in all later crates.
+#![tactic(auto)]
 ghost use Rattle.std.specs.Prelude.{◌≡◌, ◌&&◌, ◌+◌, ◌-◌, ◌*◌, ◌≤◌, ltb, leb, nat_abs};
 ghost use Rattle.model.specs.Limits.{source_limit};
 ghost use Rattle.model.specs.Refusals.{pass, check_of};

@@ -11,8 +11,8 @@ use Rattle.model.proofs.Bare.{bare, propose_bare}
 module _ (f : Film) (p numbers : List ℕ) (line : ℕ) where
   pub propose_passed : {a : ProposalAnswer} {exit : List ℕ} → row_check f p numbers line ≡ pass
       → Gives (propose (bare f) (line_start f line) numbers p) a exit → Gives (propose_call f line numbers p) (answered a) exit
-  propose_passed e G = rw (e, ← (propose_bare f (line_start f line) numbers p)) (record { answer-is = ap answered G.answer-is; lent_is = G.lent_is })
+  propose_passed e G = rw (e, ← (propose_bare f (line_start f line) numbers p)) (record { answer_is = ap answered G.answer_is; lent_is = G.lent_is })
 
-  pub propose-refused : {number place : ℕ} → row_check f p numbers line ≡ fail number place
+  pub propose_refused : {number place : ℕ} → row_check f p numbers line ≡ fail number place
       → Gives (propose_call f line numbers p) (refused number place) p
-  propose-refused e = record { answer-is = rw e; lent_is = rw e }
+  propose_refused e = record { answer_is = rw e; lent_is = rw e }

@@ -39,17 +39,17 @@ module _ (f : Film) (i : ℕ) where
   abbrev up : List (ℕ × ℕ)
   up = link_if (ltb (row_of f i + 1) f.rows) (i + f.columns) (up_at f i)
 
-  pull-across : (x : ℕ → ℕ) → pull (across f i) x ≡ pull down x + pull up x
+  pull_across : (x : ℕ → ℕ) → pull (across f i) x ≡ pull down x + pull up x
   unfolding across
-  pull-across x = pull_append down up x
+  pull_across x = pull_append down up x
 
   pull_all : (x : ℕ → ℕ) → pull (neighbours f i) x ≡ pull left x + pull right x + (pull down x + pull up x)
   unfolding neighbours beside
-  pull_all x = omega (arith, pull_append (beside f i) (across f i) x, pull_append left right x, pull-across x)
+  pull_all x = omega (arith, pull_append (beside f i) (across f i) x, pull_append left right x, pull_across x)
 
   -- the inside links of a cell add up to little, where links are small
-  pub inside-low : {x : List ℕ} → Links f.rights x → Links f.ups x → inside f i ≤ 2 ^ 28
-  inside-low R U =
+  pub inside_low : {x : List ℕ} → Links f.rights x → Links f.ups x → inside f i ≤ 2 ^ 28
+  inside_low R U =
       let ones : ℕ → ℕ = λ j. 1 in
       omega (
         arith,
@@ -65,12 +65,12 @@ module _ (f : Film) (i : ℕ) where
       )
 
   -- so do the products of two vertical links with pressures up to 2 ^ 24
-  pub across-low : (p : List ℕ) → Links f.ups p → ((k : ℕ) → get_or p k 0 ≤ 2 ^ 24) → pull (across f i) (λ j. get_or p j 0) ≤ 2 ^ 52
-  across-low p U low =
+  pub across_low : (p : List ℕ) → Links f.ups p → ((k : ℕ) → get_or p k 0 ≤ 2 ^ 24) → pull (across f i) (λ j. get_or p j 0) ≤ 2 ^ 52
+  across_low p U low =
       let at : ℕ → ℕ = λ j. get_or p j 0 in
       omega (
         arith,
-        pull-across at,
+        pull_across at,
         if_low (ltb 0 (row_of f i)) (i - f.columns) (up_at f (i - f.columns)) at,
         if_low (ltb (row_of f i + 1) f.rows) (i + f.columns) (up_at f i) at,
         mul-le-mul (U.small (i - f.columns)) (low (i - f.columns)),
@@ -89,11 +89,11 @@ module _ (f : Film) (some : 0 < f.columns) (i : ℕ) (b : i < size_of f) where
         mul_comm f.columns f.rows,
       )
 
-  right-inside : column_of f i + 1 < f.columns → i + 1 < size_of f
-  right-inside h = omega (arith, row_end 0 (omega (arith, (div-lt_iff_lt-mul some).1 b)), div-add-mod i f.columns)
+  right_inside : column_of f i + 1 < f.columns → i + 1 < size_of f
+  right_inside h = omega (arith, row_end 0 (omega (arith, (div-lt_iff_lt-mul some).1 b)), div-add-mod i f.columns)
 
-  up-inside : row_of f i + 1 < f.rows → i + f.columns < size_of f
-  up-inside h = omega (arith, row_end 1 h, div-add-mod i f.columns, mod-lt i some)
+  up_inside : row_of f i + 1 < f.rows → i + f.columns < size_of f
+  up_inside h = omega (arith, row_end 1 h, div-add-mod i f.columns, mod-lt i some)
 
   -- the pull of ones is the sum of inside links
   pub inside_is : (x : List ℕ) → ((j : ℕ) → j < size_of f → get_or x j 0 ≡ 1) → pull_of f x i ≡ inside f i
@@ -105,7 +105,7 @@ module _ (f : Film) (some : 0 < f.columns) (i : ℕ) (b : i < size_of f) where
         pull_all f i at,
         pull_all f i ones,
         if_same (ltb 0 (column_of f i)) (i - 1) (right_at f (i - 1)) at ones (λ _. one (i - 1) (omega arith)),
-        if_same (ltb (column_of f i + 1) f.columns) (i + 1) (right_at f i) at ones (λ t. one (i + 1) (right-inside (ltb-true _ _ t))),
+        if_same (ltb (column_of f i + 1) f.columns) (i + 1) (right_at f i) at ones (λ t. one (i + 1) (right_inside (ltb-true _ _ t))),
         if_same (ltb 0 (row_of f i)) (i - f.columns) (up_at f (i - f.columns)) at ones (λ _. one (i - f.columns) (omega arith)),
-        if_same (ltb (row_of f i + 1) f.rows) (i + f.columns) (up_at f i) at ones (λ t. one (i + f.columns) (up-inside (ltb-true _ _ t))),
+        if_same (ltb (row_of f i + 1) f.rows) (i + f.columns) (up_at f i) at ones (λ t. one (i + f.columns) (up_inside (ltb-true _ _ t))),
       )

@@ -19,8 +19,8 @@ module _ (f : Film) (start : ℕ) (p q : List ℕ) where
   abbrev cell_tight : ℕ → Bool
   cell_tight j = not (rises p q (start + j)) || at_most_zero (slack f q (start + j))
 
-  cell-tight : (j : ℕ) → (get_or p (start + j) 0 < get_or q (start + j) 0 → at_most_zero (slack f q (start + j)) ≡ true) → cell_tight j ≡ true
-  cell-tight j h =
+  cell_tight_lem : (j : ℕ) → (get_or p (start + j) 0 < get_or q (start + j) 0 → at_most_zero (slack f q (start + j)) ≡ true) → cell_tight j ≡ true
+  cell_tight_lem j h =
       elim (dec_lt (get_or p (start + j) 0) (get_or q (start + j) 0)) [
         | yes l ↦ rw (lt-ltb _ _ l) (h l)
         | no l ↦ let e : rises p q (start + j) ≡ false = le-ltb (get_or p (start + j) 0) (get_or q (start + j) 0) (omega arith) in rw e
@@ -46,5 +46,5 @@ module _ (f : Film) (start : ℕ) (p q : List ℕ) where
           rw (
             lt-ltb 0 (rise_count f start p q) (count_hit (λ j. rises p q (start + j)) f.columns A.some.0 A.some.1 (lt-ltb _ _ A.some.2)),
             all_true (λ k. leb (get_or q (start + k) 0) f.ceiling) f.columns (λ j h. le-leb _ _ (A.low j h)),
-            all_true cell_tight f.columns (λ j h. cell-tight j (A.tight j h)),
+            all_true cell_tight f.columns (λ j h. cell_tight_lem j (A.tight j h)),
           )

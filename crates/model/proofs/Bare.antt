@@ -32,6 +32,6 @@ pub propose_bare : (f : Film) (start : ℕ) (proposal p : List ℕ) → propose 
 unfolding propose raised_by rise_count within_ceiling tight beside across neighbours
 propose_bare f start proposal p = refl
 
-pub margin-sourceless : (f : Film) → margin (sourceless f) ≡ margin f
+pub margin_sourceless : (f : Film) → margin (sourceless f) ≡ margin f
 unfolding margin beside across neighbours
-margin-sourceless f = refl
+margin_sourceless f = refl

@@ -17,7 +17,7 @@ use Rattle.model.specs.Lists.{tabulate}
 use Rattle.model.specs.Bytes.{byte_at, word_at, long_at, quad_at, word, long, quad, signed_by, unsigned_by, signed_of, unsigned_of, signed_quad, unsigned_quad, listed}
 use Rattle.model.specs.File.{Bytes}
 use Rattle.model.proofs.Integers.{by_order}
-use Rattle.model.proofs.Lists.{tabulate-add}
+use Rattle.model.proofs.Lists.{tabulate_add}
 
 -- ---- lists of bytes: none, one more, and those of two lists
 
@@ -87,7 +87,7 @@ module _ (w K : ℕ) (write : ℕ → List ℕ) (read : List ℕ → ℕ → ℕ
       let a = read l at in
       let h = c.fits B (at + w) in
       let place : (j : ℕ) → at + (w + j) ≡ at + w + j = λ j. omega arith in
-      tabulate-add w w (λ j. byte_at l (at + j))
+      tabulate_add w w (λ j. byte_at l (at + j))
       ∙ ap₂ ◌++◌ (c.writes B at ∙ ap write (sym (digits_div a h)))
       ((λ i. tabulate w (λ j. byte_at l (place j i))) ∙ c.writes B (at + w) ∙ ap write (sym (digits_mod a h)))
 
@@ -129,41 +129,41 @@ module _ (w half : ℕ) (write : ℕ → List ℕ) (read : List ℕ → ℕ → 
   signed_reads (pos n) h = rw (lt-ltb n half h)
   signed_reads (negsuc n) h = rw (le-ltb (half + half - 1 - n) half (omega arith)) (ap negsuc (omega arith))
 
-  signed-writes : (n : ℕ) → n < half + half → unsigned_by half (signed_by half n) ≡ n
-  signed-writes n h = by_order n half (λ a. rw (lt-ltb n half a)) (λ a. rw (le-ltb n half a) (omega arith))
+  signed_writes : (n : ℕ) → n < half + half → unsigned_by half (signed_by half n) ≡ n
+  signed_writes n h = by_order n half (λ a. rw (lt-ltb n half a)) (λ a. rw (le-ltb n half a) (omega arith))
 
   signed_within : (n : ℕ) → n < half + half → Within half (signed_by half n)
   signed_within n h = by_order n half (λ a. rw (lt-ltb n half a) a) (λ a. rw (le-ltb n half a) (omega arith))
 
-  bits-low : (z : ℤ) → Within half z → unsigned_by half z < half + half
-  bits-low (pos n) h = omega arith
-  bits-low (negsuc n) h = omega arith
+  bits_low : (z : ℤ) → Within half z → unsigned_by half z < half + half
+  bits_low (pos n) h = omega arith
+  bits_low (negsuc n) h = omega arith
 
   pub signed_code : Code w (λ z. write (unsigned_by half z)) (λ l at. signed_by half (read l at)) (Within half)
   signed_code =
       record {
         len = λ z. c.len (unsigned_by half z);
-        bytes = λ z h. c.bytes (unsigned_by half z) (bits-low z h);
-        reads = λ z h l at same. ap (signed_by half) (c.reads (unsigned_by half z) (bits-low z h) l at same) ∙ signed_reads z h;
-        writes = λ {l} B at. c.writes B at ∙ ap write (sym (signed-writes (read l at) (c.fits B at)));
+        bytes = λ z h. c.bytes (unsigned_by half z) (bits_low z h);
+        reads = λ z h l at same. ap (signed_by half) (c.reads (unsigned_by half z) (bits_low z h) l at same) ∙ signed_reads z h;
+        writes = λ {l} B at. c.writes B at ∙ ap write (sym (signed_writes (read l at) (c.fits B at)));
         fits = λ {l} B at. signed_within (read l at) (c.fits B at);
         alike = λ l m at same. ap (signed_by half) (c.alike l m at same);
       }
 
-pub signed-long_code : Code 4 (λ z. long (unsigned_of z)) (λ l at. signed_of (long_at l at)) (Within 2147483648)
-signed-long_code = signed_code 4 2147483648 long long_at long_code
+pub signed_long_code : Code 4 (λ z. long (unsigned_of z)) (λ l at. signed_of (long_at l at)) (Within 2147483648)
+signed_long_code = signed_code 4 2147483648 long long_at long_code
 
-pub signed-quad_code : Code 8 (λ z. quad (unsigned_quad z)) (λ l at. signed_quad (quad_at l at)) (Within 9223372036854775808)
-signed-quad_code = signed_code 8 9223372036854775808 quad quad_at quad_code
+pub signed_quad_code : Code 8 (λ z. quad (unsigned_quad z)) (λ l at. signed_quad (quad_at l at)) (Within 9223372036854775808)
+signed_quad_code = signed_code 8 9223372036854775808 quad quad_at quad_code
 
 -- ---- lists of numbers
 
 module _ {A : Type 0} {w : ℕ} {write : A → List ℕ} {read : List ℕ → ℕ → A} {Fits : A → Type 0} (c : Code w write read Fits) where
   -- how many bytes they have, and what those of number i are
-  pub listed-length : (xs : List A) → length (listed write xs) ≡ w * length xs
-  listed-length [] = sym (mul-zero w)
-  listed-length (x ∷ xs) =
-      omega (arith, length-append (write x) (listed write xs), c.len x, listed-length xs, mul-suc w (length xs))
+  pub listed_length : (xs : List A) → length (listed write xs) ≡ w * length xs
+  listed_length [] = sym (mul-zero w)
+  listed_length (x ∷ xs) =
+      omega (arith, length-append (write x) (listed write xs), c.len x, listed_length xs, mul-suc w (length xs))
 
   number_bytes : (xs : List A) (d : A) (i j : ℕ) → i < length xs → j < w → byte_at (listed write xs) (w * i + j) ≡ byte_at (write (get_or xs i d)) j
   number_bytes [] d i j h b = absurd (omega arith)
@@ -178,25 +178,25 @@ module _ {A : Type 0} {w : ℕ} {write : A → List ℕ} {read : List ℕ → �
       ∙ number_bytes xs d i j (le_of_suc-le-suc h) b
 
   -- where they stand, each is read back
-  pub listed-reads : (xs : List A) (d : A) (l : List ℕ) (from : ℕ)
+  pub listed_reads : (xs : List A) (d : A) (l : List ℕ) (from : ℕ)
       → ((j k : ℕ) → j < w * length xs → k ≡ from + j → byte_at l k ≡ byte_at (listed write xs) j)
       → (i : ℕ) → i < length xs → Fits (get_or xs i d) → read l (from + w * i) ≡ get_or xs i d
-  listed-reads xs d l from same i h f =
+  listed_reads xs d l from same i h f =
       let room : w * i + w ≤ w * length xs = omega (arith, mul-le-mul_left w h, mul-suc w i) in
       c.reads (get_or xs i d) f l (from + w * i) (λ j k b e. same (w * i + j) k (omega arith) (omega arith) ∙ number_bytes xs d i j h b)
 
   -- bytes are written as they are read
-  pub listed-writes : {l : List ℕ} → Bytes l → (n from : ℕ) → tabulate (w * n) (λ j. byte_at l (from + j)) ≡ listed write (tabulate n (λ i. read l (from + w * i)))
-  listed-writes {l} B zero from = ap (λ t. tabulate t (λ j. byte_at l (from + j))) (mul-zero w)
-  listed-writes {l} B (suc n) from =
+  pub listed_writes : {l : List ℕ} → Bytes l → (n from : ℕ) → tabulate (w * n) (λ j. byte_at l (from + j)) ≡ listed write (tabulate n (λ i. read l (from + w * i)))
+  listed_writes {l} B zero from = ap (λ t. tabulate t (λ j. byte_at l (from + j))) (mul-zero w)
+  listed_writes {l} B (suc n) from =
       let many : w * suc n ≡ w + w * n = omega (arith, mul-suc w n) in
       let first : from ≡ from + w * 0 = omega (arith, mul-zero w) in
       let place : (j : ℕ) → from + (w + j) ≡ from + w + j = λ j. omega arith in
       let next : (i : ℕ) → from + w + w * i ≡ from + w * suc i = λ i. omega (arith, mul-suc w i) in
       ap (λ t. tabulate t (λ j. byte_at l (from + j))) many
-      ∙ tabulate-add w (w * n) (λ j. byte_at l (from + j))
+      ∙ tabulate_add w (w * n) (λ j. byte_at l (from + j))
       ∙ ap₂ ◌++◌ (c.writes B from ∙ ap (λ k. write (read l k)) first)
-      ((λ k. tabulate (w * n) (λ j. byte_at l (place j k))) ∙ listed-writes B n (from + w) ∙ (λ k. listed write (tabulate n (λ i. read l (next i k)))))
+      ((λ k. tabulate (w * n) (λ j. byte_at l (place j k))) ∙ listed_writes B n (from + w) ∙ (λ k. listed write (tabulate n (λ i. read l (next i k)))))
 
   pub listed_bytes : (xs : List A) (d : A) → ((i : ℕ) → i < length xs → Fits (get_or xs i d)) → Bytes (listed write xs)
   listed_bytes [] d f = bytes_nil

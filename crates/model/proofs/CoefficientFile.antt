@@ -24,15 +24,15 @@ use Rattle.model.specs.Bytes.{byte_at, word_at, long_at, word, long, listed}
 use Rattle.model.specs.Fields.{Field, field, fields_end, bytes_of}
 use Rattle.model.specs.File.{rows_offset, columns_offset, ceiling_offset, weights_offset, cells_in, weightless, fields_check, weight_bytes, weights_check, gauge_check, Bytes, Values, InPlace}
 use Rattle.model.specs.CoefficientFile.{diagonals_field, rights_field, ups_field, sources_field, coefficient_fields, diagonals_offset, rights_offset, ups_offset, sources_offset, coefficient_end, longs_at, signed_quads_at, coefficients_in, coefficient_fields_in, coefficient_file_check, read_coefficients, source_bytes, coefficient_bodies, coefficient_file_of, writer_check, CoefficientValues}
-use Rattle.model.proofs.Lists.{tabulate-length, tabulate_below}
-use Rattle.model.proofs.Checks.{within, or_else_parts, pass_both, fail_if-pass, fail_first-pass, fits_lengths, coefficient_passes, answer_passed, refusal_of_lem}
-use Rattle.model.proofs.Codes.{bytes_nil, bytes_cons, word_code, long_code, signed-quad_code, within_abs, listed-length, listed-writes, listed_bytes}
-use Rattle.model.proofs.Fields.{Passes, fields-pass, pass-fields, bodies_in, whole_file, begins_whole, Fit, Laid, laid, bytes_length}
-use Rattle.model.proofs.Opening.{shape_passes, has_weights, Continues, continues, list_inside, Opened, opening-reads}
+use Rattle.model.proofs.Lists.{tabulate_length, tabulate_below}
+use Rattle.model.proofs.Checks.{within, or_else_parts, pass_both, fail_if_pass, fail_first_pass, fits_lengths, coefficient_passes, answer_passed, refusal_of_lem}
+use Rattle.model.proofs.Codes.{bytes_nil, bytes_cons, word_code, long_code, signed_quad_code, within_abs, listed_length, listed_writes, listed_bytes}
+use Rattle.model.proofs.Fields.{Passes, fields_pass, pass_fields, bodies_in, whole_file, begins_whole, Fit, Laid, laid, bytes_length}
+use Rattle.model.proofs.Opening.{shape_passes, has_weights, Continues, continues, list_inside, Opened, opening_reads}
 use Rattle.model.proofs.Numbered.{searched_coefficients}
-use Rattle.model.proofs.Weighing.{ones, found-least, found-accepted, none_found, least-weighted}
+use Rattle.model.proofs.Weighing.{ones, found_least, found_accepted, none_found, least_weighted}
 use Rattle.model.proofs.File.{weights_alike, fields_bytes}
-use Rattle.model.proofs.Forming.{outside-false, pass-first, accepted_passes, formed-accepted}
+use Rattle.model.proofs.Forming.{outside_false, pass_first, accepted_passes, formed_accepted}
 
 -- ---- the tests of shape, ceiling, weights, coefficients and row sums say that the film is accepted, and back
 
@@ -59,30 +59,30 @@ writer_tests f p = pass_both p.shape (pass_both p.ceiling (pass_both p.weights (
 pub passed_sized : (f : Film) → film_fits f ≡ true → shape_check f.rows rows_offset f.columns columns_offset ≡ pass → ceiling_check f.ceiling ceiling_offset ≡ pass → Sized f
 passed_sized f fits shape ceiling =
     let s = shape_passes f.rows f.columns rows_offset columns_offset shape in
-    let top = within f.ceiling 1 ceiling_limit (fail_if-pass _ 5 ceiling_offset ceiling) in
+    let top = within f.ceiling 1 ceiling_limit (fail_if_pass _ 5 ceiling_offset ceiling) in
     let lengths = fits_lengths f fits in
     record {
-      rows-some = s.rows-some;
-      rows-low = s.rows-low;
-      columns-some = s.columns-some;
-      columns-low = s.columns-low;
-      ceiling-some = top.0;
-      ceiling-low = top.1;
-      weights-len = lengths.0;
-      diagonals-len = lengths.1;
-      rights-len = lengths.2;
-      ups-len = lengths.3;
-      sources-len = lengths.4;
+      rows_some = s.rows_some;
+      rows_low = s.rows_low;
+      columns_some = s.columns_some;
+      columns_low = s.columns_low;
+      ceiling_some = top.0;
+      ceiling_low = top.1;
+      weights_len = lengths.0;
+      diagonals_len = lengths.1;
+      rights_len = lengths.2;
+      ups_len = lengths.3;
+      sources_len = lengths.4;
     }
 
 pub writer_accepted : (f : Film) → film_fits f ≡ true → WriterPassed f → Accepted f
 unfolding dominance_check not_dominant
 writer_accepted f fits p =
-    let none = fail_first-pass (λ i. eqb (get_or f.weights i 0) 0) (size_of f) 6 (λ i. weights_offset + 2 * i) p.weights in
+    let none = fail_first_pass (λ i. eqb (get_or f.weights i 0) 0) (size_of f) 6 (λ i. weights_offset + 2 * i) p.weights in
     record {
       limited = coefficient_passes f (passed_sized f fits p.shape p.ceiling) p.coefficients;
       weight = λ i h. omega (arith, eqb-false (get_or f.weights i 0) 0 (none i h));
-      dominant = λ i h. fail_first-pass _ _ 9 (λ i. i) p.dominant i h;
+      dominant = λ i h. fail_first_pass _ _ 9 (λ i. i) p.dominant i h;
     }
 
 pub accepted_writer : (f : Film) → Accepted f → WriterPassed f
@@ -93,18 +93,18 @@ accepted_writer f A =
     let c = or_else_parts (weight_check f) _ b.1 in
     let d = or_else_parts (dominance_check f) _ c.1 in
     record {
-      shape = rw (outside-false f.rows 1 side_limit s.rows-some s.rows-low, outside-false f.columns 1 side_limit s.columns-some s.columns-low);
-      ceiling = rw (outside-false f.ceiling 1 ceiling_limit s.ceiling-some s.ceiling-low);
-      weights = pass-first (λ i. eqb (get_or f.weights i 0) 0) (size_of f) 6 (λ i. weights_offset + 2 * i) (λ i h. ne_eqb (get_or f.weights i 0) 0 (λ e. omega (arith, A.weight i h)));
+      shape = rw (outside_false f.rows 1 side_limit s.rows_some s.rows_low, outside_false f.columns 1 side_limit s.columns_some s.columns_low);
+      ceiling = rw (outside_false f.ceiling 1 ceiling_limit s.ceiling_some s.ceiling_low);
+      weights = pass_first (λ i. eqb (get_or f.weights i 0) 0) (size_of f) 6 (λ i. weights_offset + 2 * i) (λ i h. ne_eqb (get_or f.weights i 0) 0 (λ e. omega (arith, A.weight i h)));
       coefficients = b.0;
       dominant = d.0;
     }
 
-accepted-fits : (f : Film) → Accepted f → film_fits f ≡ true
+accepted_fits : (f : Film) → Accepted f → film_fits f ≡ true
 unfolding film_fits
-accepted-fits f A =
+accepted_fits f A =
     let s = A.limited.sized in
-    rw (eq-eqb _ _ s.weights-len, eq-eqb _ _ s.diagonals-len, eq-eqb _ _ s.rights-len, eq-eqb _ _ s.ups-len, eq-eqb _ _ s.sources-len)
+    rw (eq-eqb _ _ s.weights_len, eq-eqb _ _ s.diagonals_len, eq-eqb _ _ s.rights_len, eq-eqb _ _ s.ups_len, eq-eqb _ _ s.sources_len)
 
 -- an accepted film, with weights of 16 bits
 record Writes (f : Film) : Type 0 where
@@ -112,7 +112,7 @@ record Writes (f : Film) : Type 0 where
   word : (i : ℕ) → i < size_of f → get_or f.weights i 0 < 65536
 
 writes : (f : Film) → CoefficientValues f → writer_check f true ≡ pass → Writes f
-writes f v e = record { accepted = writer_accepted f v.fits (writer_passes f e); word = λ i h. v.weight-word i }
+writes f v e = record { accepted = writer_accepted f v.fits (writer_passes f e); word = λ i h. v.weight_word i }
 
 -- ---- the numbers of a file with so many weights
 
@@ -164,14 +164,14 @@ module _ (f : Film) (w : Writes f) where
     (
       refl,
       (
-        listed-length word_code f.weights ∙ ap (λ (n : ℕ). 2 * n) sized.weights-len,
+        listed_length word_code f.weights ∙ ap (λ (n : ℕ). 2 * n) sized.weights_len,
         (
-          listed-length long_code f.diagonals ∙ ap (λ (n : ℕ). 4 * n) sized.diagonals-len,
+          listed_length long_code f.diagonals ∙ ap (λ (n : ℕ). 4 * n) sized.diagonals_len,
           (
-            listed-length long_code f.rights ∙ ap (λ (n : ℕ). 4 * n) sized.rights-len,
+            listed_length long_code f.rights ∙ ap (λ (n : ℕ). 4 * n) sized.rights_len,
             (
-              listed-length long_code f.ups ∙ ap (λ (n : ℕ). 4 * n) sized.ups-len,
-              (listed-length signed-quad_code f.sources ∙ ap (λ (n : ℕ). 8 * n) sized.sources-len, tt),
+              listed_length long_code f.ups ∙ ap (λ (n : ℕ). 4 * n) sized.ups_len,
+              (listed_length signed_quad_code f.sources ∙ ap (λ (n : ℕ). 8 * n) sized.sources_len, tt),
             ),
           ),
         ),
@@ -180,14 +180,14 @@ module _ (f : Film) (w : Writes f) where
   )
 
   -- numbers within their limits have their widths
-  diagonal-long : (i : ℕ) → i < size_of f → diagonal_at f i < 4294967296
-  diagonal-long i h = omega (arith, (w.accepted.limited.cell i h).diagonal-low)
+  diagonal_long : (i : ℕ) → i < size_of f → diagonal_at f i < 4294967296
+  diagonal_long i h = omega (arith, (w.accepted.limited.cell i h).diagonal_low)
 
-  right-long : (i : ℕ) → i < size_of f → right_at f i < 4294967296
-  right-long i h = omega (arith, (w.accepted.limited.cell i h).right-low)
+  right_long : (i : ℕ) → i < size_of f → right_at f i < 4294967296
+  right_long i h = omega (arith, (w.accepted.limited.cell i h).right_low)
 
-  up-long : (i : ℕ) → i < size_of f → up_at f i < 4294967296
-  up-long i h = omega (arith, (w.accepted.limited.cell i h).up-low)
+  up_long : (i : ℕ) → i < size_of f → up_at f i < 4294967296
+  up_long i h = omega (arith, (w.accepted.limited.cell i h).up_low)
 
   -- where the film's fields stand in a file, the film that stands there is this one
   laid_reads : (l : List ℕ) → Laid fields_of (coefficient_bodies f) l 0 → standing l ≡ f
@@ -195,7 +195,7 @@ module _ (f : Film) (w : Writes f) where
       record {
         rows = opened.rows_are k;
         columns = opened.columns_are k;
-        ceiling = opened.ceiling-is k;
+        ceiling = opened.ceiling_is k;
         weights = opened.weights_are k;
         diagonals = diagonals k;
         rights = rights k;
@@ -204,39 +204,39 @@ module _ (f : Film) (w : Writes f) where
       }
     where
       opened : Opened f.rows f.columns f.ceiling f.weights l
-      opened = opening-reads f.rows f.columns f.ceiling f.weights l sized.weights-len (omega (arith, sized.ceiling-low)) w.word L.0 L.1.0 L.1.1.0
+      opened = opening_reads f.rows f.columns f.ceiling f.weights l sized.weights_len (omega (arith, sized.ceiling_low)) w.word L.0 L.1.0 L.1.1.0
 
       diagonals : (standing l).diagonals ≡ f.diagonals
-      diagonals = rw (opened.rows_are, opened.columns_are) (list_inside long_code f.diagonals 0 (size_of f) sized.diagonals-len diagonal-long L.1.1.1.0)
+      diagonals = rw (opened.rows_are, opened.columns_are) (list_inside long_code f.diagonals 0 (size_of f) sized.diagonals_len diagonal_long L.1.1.1.0)
 
       rights : (standing l).rights ≡ f.rights
-      rights = rw (opened.rows_are, opened.columns_are) (list_inside long_code f.rights 0 (size_of f) sized.rights-len right-long L.1.1.1.1.0)
+      rights = rw (opened.rows_are, opened.columns_are) (list_inside long_code f.rights 0 (size_of f) sized.rights_len right_long L.1.1.1.1.0)
 
       ups : (standing l).ups ≡ f.ups
-      ups = rw (opened.rows_are, opened.columns_are) (list_inside long_code f.ups 0 (size_of f) sized.ups-len up-long L.1.1.1.1.1.0)
+      ups = rw (opened.rows_are, opened.columns_are) (list_inside long_code f.ups 0 (size_of f) sized.ups_len up_long L.1.1.1.1.1.0)
 
       sources : (standing l).sources ≡ f.sources
       sources =
           rw (opened.rows_are, opened.columns_are)
-          (list_inside signed-quad_code f.sources (pos 0) (size_of f) sized.sources-len
+          (list_inside signed_quad_code f.sources (pos 0) (size_of f) sized.sources_len
           (λ i h. within_abs 9223372036854775808 (source_at f i) (omega (arith, (w.accepted.limited.cell i h).source_low))) L.1.1.1.1.1.1.0)
 
   film_laid : Laid fields_of (coefficient_bodies f) (coefficient_file_of f) 0
   unfolding coefficient_file_of
   film_laid = laid fields_of (coefficient_bodies f) (coefficient_file_of f) [] 0 bodies_fit refl (begins_whole (coefficient_file_of f))
 
-  written-length : length (coefficient_file_of f) ≡ coefficient_end (size_of f)
+  written_length : length (coefficient_file_of f) ≡ coefficient_end (size_of f)
   unfolding coefficient_file_of
-  written-length = sym (zero-add _) ∙ bytes_length fields_of (coefficient_bodies f) 0 bodies_fit
+  written_length = sym (zero-add _) ∙ bytes_length fields_of (coefficient_bodies f) 0 bodies_fit
 
   -- it has its weights
-  written-weights : weightless (coefficient_file_of f) ≡ false
-  written-weights = has_weights (coefficient_file_of f) (size_of f) film_laid.1.1.0.passes (mul-pos sized.rows-some sized.columns-some)
+  written_weights : weightless (coefficient_file_of f) ≡ false
+  written_weights = has_weights (coefficient_file_of f) (size_of f) film_laid.1.1.0.passes (mul-pos sized.rows_some sized.columns_some)
 
   -- The writer's file is accepted, and its film is the one that was written.
-  film-reads : read_coefficients (coefficient_file_of f) ≡ answered f
+  film_reads : read_coefficients (coefficient_file_of f) ≡ answered f
   unfolding coefficient_file_check
-  film-reads =
+  film_reads =
       let l = coefficient_file_of f in
       let same : standing l ≡ f = laid_reads l film_laid in
       let p = subst WriterPassed (sym same) (accepted_writer f w.accepted) in
@@ -259,16 +259,16 @@ module _ (f : Film) (w : Writes f) where
           ),
         ),
       ) in
-      let end : length l ≡ coefficient_end (cells_in l) = written-length ∙ ap (λ (h : Film). coefficient_end (size_of h)) (sym same) in
-      let fields = pass-fields (coefficient_fields (cells_in l) (cells_in l)) l walks (omega (arith, end)) in
-      ap (λ none. answer_by (check_by none l) (film_by none l)) written-weights
+      let end : length l ≡ coefficient_end (cells_in l) = written_length ∙ ap (λ (h : Film). coefficient_end (size_of h)) (sym same) in
+      let fields = pass_fields (coefficient_fields (cells_in l) (cells_in l)) l walks (omega (arith, end)) in
+      ap (λ none. answer_by (check_by none l) (film_by none l)) written_weights
       ∙ ap₂ answer_by (pass_both fields (pass_both p.coefficients p.dominant)) same
 
   film_bytes : Bytes (coefficient_file_of f)
   unfolding coefficient_file_of
   film_bytes =
-      let count : size_of f ≤ side_limit * side_limit = mul-le-mul sized.rows-low sized.columns-low in
-      let shape : Bytes (f.rows ∷ f.columns ∷ []) = bytes_cons (omega (arith, sized.rows-low)) (bytes_cons (omega (arith, sized.columns-low)) bytes_nil) in
+      let count : size_of f ≤ side_limit * side_limit = mul-le-mul sized.rows_low sized.columns_low in
+      let shape : Bytes (f.rows ∷ f.columns ∷ []) = bytes_cons (omega (arith, sized.rows_low)) (bytes_cons (omega (arith, sized.columns_low)) bytes_nil) in
       fields_bytes fields_of (coefficient_bodies f) (
         omega arith,
         omega arith,
@@ -276,28 +276,28 @@ module _ (f : Film) (w : Writes f) where
         (
           omega arith,
           omega arith,
-          long_code.bytes f.ceiling (omega (arith, sized.ceiling-low)),
+          long_code.bytes f.ceiling (omega (arith, sized.ceiling_low)),
           (
             omega arith,
             omega arith,
-            listed_bytes word_code f.weights 0 (λ i h. w.word i (omega (arith, sized.weights-len))),
+            listed_bytes word_code f.weights 0 (λ i h. w.word i (omega (arith, sized.weights_len))),
             (
               omega arith,
               omega arith,
-              listed_bytes long_code f.diagonals 0 (λ i h. diagonal-long i (omega (arith, sized.diagonals-len))),
+              listed_bytes long_code f.diagonals 0 (λ i h. diagonal_long i (omega (arith, sized.diagonals_len))),
               (
                 omega arith,
                 omega arith,
-                listed_bytes long_code f.rights 0 (λ i h. right-long i (omega (arith, sized.rights-len))),
+                listed_bytes long_code f.rights 0 (λ i h. right_long i (omega (arith, sized.rights_len))),
                 (
                   omega arith,
                   omega arith,
-                  listed_bytes long_code f.ups 0 (λ i h. up-long i (omega (arith, sized.ups-len))),
+                  listed_bytes long_code f.ups 0 (λ i h. up_long i (omega (arith, sized.ups_len))),
                   (
                     omega arith,
                     omega arith,
-                    listed_bytes signed-quad_code f.sources (pos 0)
-                        (λ i h. within_abs 9223372036854775808 (source_at f i) (omega (arith, (w.accepted.limited.cell i (omega (arith, sized.sources-len))).source_low))),
+                    listed_bytes signed_quad_code f.sources (pos 0)
+                        (λ i h. within_abs 9223372036854775808 (source_at f i) (omega (arith, (w.accepted.limited.cell i (omega (arith, sized.sources_len))).source_low))),
                     tt,
                   ),
                 ),
@@ -308,14 +308,14 @@ module _ (f : Film) (w : Writes f) where
       )
 
 -- The writer's file has its length, consists of bytes, and reads back to the film.
-pub coefficients-length : (f : Film) → CoefficientValues f → writer_check f true ≡ pass → length (coefficient_file_of f) ≡ coefficient_end (size_of f)
-coefficients-length f v e = written-length f (writes f v e)
+pub coefficients_length : (f : Film) → CoefficientValues f → writer_check f true ≡ pass → length (coefficient_file_of f) ≡ coefficient_end (size_of f)
+coefficients_length f v e = written_length f (writes f v e)
 
 pub coefficients_bytes : (f : Film) → CoefficientValues f → writer_check f true ≡ pass → Bytes (coefficient_file_of f)
 coefficients_bytes f v e = film_bytes f (writes f v e)
 
-pub coefficients-written : (f : Film) → CoefficientValues f → writer_check f true ≡ pass → read_coefficients (coefficient_file_of f) ≡ answered f
-coefficients-written f v e = film-reads f (writes f v e)
+pub coefficients_written : (f : Film) → CoefficientValues f → writer_check f true ≡ pass → read_coefficients (coefficient_file_of f) ≡ answered f
+coefficients_written f v e = film_reads f (writes f v e)
 
 -- ---- what was read is written back
 
@@ -325,10 +325,10 @@ module _ (l : List ℕ) (w : ℕ) (weights : List ℕ) (e : length weights ≡ c
   unfolding film_fits
   fits_in =
       let f = coefficients_by w l in
-      let diagonals : length f.diagonals ≡ size_of f = tabulate-length _ _ in
-      let rights : length f.rights ≡ size_of f = tabulate-length _ _ in
-      let ups : length f.ups ≡ size_of f = tabulate-length _ _ in
-      let sources : length f.sources ≡ size_of f = tabulate-length _ _ in
+      let diagonals : length f.diagonals ≡ size_of f = tabulate_length _ _ in
+      let rights : length f.rights ≡ size_of f = tabulate_length _ _ in
+      let ups : length f.ups ≡ size_of f = tabulate_length _ _ in
+      let sources : length f.sources ≡ size_of f = tabulate_length _ _ in
       rw (eq-eqb _ _ e, eq-eqb _ _ diagonals, eq-eqb _ _ rights, eq-eqb _ _ ups, eq-eqb _ _ sources)
 
   pub sized_in : Passes (coefficient_fields w (cells_in l)) l 0 → Sized (weighted (coefficients_by w l) weights)
@@ -349,21 +349,21 @@ record PassedBy (none : Bool) (l : List ℕ) : Type 0 where
 passed_by : (none : Bool) (l : List ℕ) → check_by none l ≡ pass → PassedBy none l
 passed_by none l e =
     let a = or_else_parts (fields_check (fields_by none l) l) _ e in
-    let b = fields-pass (fields_by none l) l a.0 in
+    let b = fields_pass (fields_by none l) l a.0 in
     let c = or_else_parts (coefficient_check (coefficients_by (has_of none l) l)) _ a.1 in
     record { fields = b.0; ends = b.1; coefficients = c.0; held = c.1 }
 
 -- weights that are found are the least, and with them or with its own the film is accepted
-found-limited : (l : List ℕ) → PassedBy true l → Limited (weighted (coefficients_by 0 l) (ones (cells_in l)))
-found-limited l P = limited_in l 0 (ones (cells_in l)) (tabulate-length _ _) P.fields P.coefficients
+found_limited : (l : List ℕ) → PassedBy true l → Limited (weighted (coefficients_by 0 l) (ones (cells_in l)))
+found_limited l P = limited_in l 0 (ones (cells_in l)) (tabulate_length _ _) P.fields P.coefficients
 
 found_in : (l : List ℕ) → PassedBy true l → LeastWeights (coefficients_by 0 l) (found_weights (coefficients_by 0 l))
-found_in l P = found-least (coefficients_by 0 l) (ones (cells_in l)) (found-limited l P) P.held
+found_in l P = found_least (coefficients_by 0 l) (ones (cells_in l)) (found_limited l P) P.held
 
-film-held : (none : Bool) (l : List ℕ) → PassedBy none l → Accepted (film_by none l)
-film-held true l P = found-accepted (coefficients_by 0 l) (ones (cells_in l)) (found-limited l P) P.held
-film-held false l P =
-    writer_accepted (standing l) (fits_in l (cells_in l) (standing l).weights (tabulate-length _ _))
+film_held : (none : Bool) (l : List ℕ) → PassedBy none l → Accepted (film_by none l)
+film_held true l P = found_accepted (coefficients_by 0 l) (ones (cells_in l)) (found_limited l P) P.held
+film_held false l P =
+    writer_accepted (standing l) (fits_in l (cells_in l) (standing l).weights (tabulate_length _ _))
     (record {
       shape = P.fields.1;
       ceiling = P.fields.2.1;
@@ -377,11 +377,11 @@ module _ {l : List ℕ} (B : Bytes l) where
   bodies_in_lem w =
       let n = cells_in l in
       let ceiling = long_code.writes B ceiling_offset in
-      let weights = listed-writes word_code B w weights_offset in
-      let diagonals = listed-writes long_code B n (diagonals_offset w) in
-      let rights = listed-writes long_code B n (rights_offset w n) in
-      let ups = listed-writes long_code B n (ups_offset w n) in
-      let sources = listed-writes signed-quad_code B n (sources_offset w n) in
+      let weights = listed_writes word_code B w weights_offset in
+      let diagonals = listed_writes long_code B n (diagonals_offset w) in
+      let rights = listed_writes long_code B n (rights_offset w n) in
+      let ups = listed_writes long_code B n (ups_offset w n) in
+      let sources = listed_writes signed_quad_code B n (sources_offset w n) in
       λ k.
       ((coefficients_by w l).rows ∷ (coefficients_by w l).columns ∷ []) ∷ ceiling k ∷ weights k ∷ diagonals k ∷ rights k ∷ ups k ∷ sources k ∷ []
 
@@ -416,16 +416,16 @@ coefficients_continue bytes f e =
     continues bytes (diagonals_field n) (rights_field n ∷ ups_field n ∷ sources_field n ∷ []) (read_as bytes f e).passed.fields
 
 -- What was read is accepted by every call that takes coefficients, ..
-pub coefficients-accepted : (bytes : List ℕ) (f : Film) → read_coefficients bytes ≡ answered f → Accepted f
-coefficients-accepted bytes f e = let r = read_as bytes f e in subst Accepted r.same (film-held (weightless bytes) bytes r.passed)
+pub coefficients_accepted : (bytes : List ℕ) (f : Film) → read_coefficients bytes ≡ answered f → Accepted f
+coefficients_accepted bytes f e = let r = read_as bytes f e in subst Accepted r.same (film_held (weightless bytes) bytes r.passed)
 
 -- .. and passes the writer's tests.
 pub coefficients_values : (bytes : List ℕ) (f : Film) → Bytes bytes → read_coefficients bytes ≡ answered f → CoefficientValues f × (writer_check f true ≡ pass)
 coefficients_values bytes f B e =
     let r = read_as bytes f e in
-    let A = coefficients-accepted bytes f e in
+    let A = coefficients_accepted bytes f e in
     let words = subst (λ (h : Film). (i : ℕ) → get_or h.weights i 0 < 65536) r.same (weights_fit B (weightless bytes) r.passed) in
-    (record { fits = accepted-fits f A; weight-word = words }, writer_tests f (accepted_writer f A))
+    (record { fits = accepted_fits f A; weight_word = words }, writer_tests f (accepted_writer f A))
 
 -- Writing what was read gives the file's own bytes, if it has its weights; ..
 pub coefficients_write : (bytes : List ℕ) (f : Film) → Bytes bytes → weightless bytes ≡ false → read_coefficients bytes ≡ answered f → coefficient_file_of f ≡ bytes
@@ -450,45 +450,45 @@ coefficients_placed bytes f B c e =
         record {
           front = field 1 2 (h.rows ∷ h.columns ∷ []) ++ field 2 4 (long h.ceiling);
           back = back;
-          front-len = refl;
+          front_len = refl;
           was = sym (fields_are B 0 P.fields P.ends);
           is = ap (λ (k : ℕ). field 1 2 (h.rows ∷ h.columns ∷ []) ++ field 2 4 (long h.ceiling) ++ field 3 k (weight_bytes (film_by true bytes).weights) ++ back) size;
         }
 
 -- The film that is read from it has the least weights, ..
-pub coefficients-least : (bytes : List ℕ) (f : Film) → weightless bytes ≡ true → read_coefficients bytes ≡ answered f → LeastWeights f f.weights
+pub coefficients_least : (bytes : List ℕ) (f : Film) → weightless bytes ≡ true → read_coefficients bytes ≡ answered f → LeastWeights f f.weights
 unfolding coefficient_file_check
-coefficients-least bytes f c e =
+coefficients_least bytes f c e =
     let r = read_by true bytes f (subst (λ none. answer_by (check_by none bytes) (film_by none bytes) ≡ answered f) c e) in
-    subst (λ (h : Film). LeastWeights h h.weights) r.same (least-weighted (film_by true bytes).weights (found_in bytes r.passed))
+    subst (λ (h : Film). LeastWeights h h.weights) r.same (least_weighted (film_by true bytes).weights (found_in bytes r.passed))
 
 -- .. and where a file is refused with 16, no weights up to 65,535 do it.
-pub coefficients-none : (bytes : List ℕ) (i : ℕ) → read_coefficients bytes ≡ refused 16 i
+pub coefficients_none : (bytes : List ℕ) (i : ℕ) → read_coefficients bytes ≡ refused 16 i
     → (z : List ℕ) → Weights (coefficients_in bytes) z → ((j : ℕ) → j < cells_in bytes → get_or z j 0 ≤ weight_limit) → ⊥
-coefficients-none bytes i e z K low =
+coefficients_none bytes i e z K low =
     let S = searched_coefficients bytes i (refusal_of_lem _ _ e) in
     let passed = or_else_parts (fields_check (coefficient_fields_in bytes) bytes) (coefficient_check (coefficients_in bytes)) S.fields_passed in
     let fields : fields_check (fields_by true bytes) bytes ≡ pass = subst (λ none. fields_check (fields_by none bytes) bytes ≡ pass) S.none passed.0 in
     let limits : coefficient_check (coefficients_by 0 bytes) ≡ pass = subst (λ none. coefficient_check (coefficients_by (has_of none bytes) bytes) ≡ pass) S.none passed.1 in
     let searched : search_check (coefficients_by 0 bytes) ≡ fail 16 i = subst (λ none. search_check (coefficients_by (has_of none bytes) bytes) ≡ fail 16 i) S.none S.found in
-    let L = limited_in bytes 0 (ones (cells_in bytes)) (tabulate-length _ _) (fields-pass (fields_by true bytes) bytes fields).0 limits in
+    let L = limited_in bytes 0 (ones (cells_in bytes)) (tabulate_length _ _) (fields_pass (fields_by true bytes) bytes fields).0 limits in
     none_found (coefficients_by 0 bytes) (ones (cells_in bytes)) L i searched z (subst (λ none. Weights (coefficients_by (has_of none bytes) bytes) z) S.none K) low
 
 pub placed_coefficients : (bytes : List ℕ) (f : Film) → Bytes bytes → read_coefficients bytes ≡ answered f → read_coefficients (coefficient_file_of f) ≡ read_coefficients bytes
-placed_coefficients bytes f B e = let v = coefficients_values bytes f B e in coefficients-written f v.0 v.1 ∙ sym e
+placed_coefficients bytes f B e = let v = coefficients_values bytes f B e in coefficients_written f v.0 v.1 ∙ sym e
 
 -- ---- what is converted
 
 -- a gauged film's numbers that pass their tests form a film that passes the writer's
-formed-writes : (g : Gauge) → Values g → gauge_check g true ≡ pass → Writes (formed g)
-formed-writes g v e = record { accepted = formed-accepted g v e; word = λ i h. v.weight-word i }
+formed_writes : (g : Gauge) → Values g → gauge_check g true ≡ pass → Writes (formed g)
+formed_writes g v e = record { accepted = formed_accepted g v e; word = λ i h. v.weight_word i }
 
-pub converted-length : (g : Gauge) → Values g → gauge_check g true ≡ pass → length (coefficient_file_of (formed g)) ≡ coefficient_end (size_of (formed g))
-converted-length g v e = written-length (formed g) (formed-writes g v e)
+pub converted_length : (g : Gauge) → Values g → gauge_check g true ≡ pass → length (coefficient_file_of (formed g)) ≡ coefficient_end (size_of (formed g))
+converted_length g v e = written_length (formed g) (formed_writes g v e)
 
 pub converted_bytes : (g : Gauge) → Values g → gauge_check g true ≡ pass → Bytes (coefficient_file_of (formed g))
-converted_bytes g v e = film_bytes (formed g) (formed-writes g v e)
+converted_bytes g v e = film_bytes (formed g) (formed_writes g v e)
 
 -- The converter's bytes read as the film that forming gives.
-pub converted-reads : (g : Gauge) → Values g → gauge_check g true ≡ pass → read_coefficients (coefficient_file_of (formed g)) ≡ answered (formed g)
-converted-reads g v e = film-reads (formed g) (formed-writes g v e)
+pub converted_reads : (g : Gauge) → Values g → gauge_check g true ≡ pass → read_coefficients (coefficient_file_of (formed g)) ≡ answered (formed g)
+converted_reads g v e = film_reads (formed g) (formed_writes g v e)

@@ -11,7 +11,7 @@ use Rattle.monotone.specs.Field.{total, ◌⊑◌}
 use Rattle.monotone.specs.Rule as theory
 use Rattle.monotone.specs.Linear.{Positive}
 use Rattle.monotone.specs.History.{Each, Promise}
-use Rattle.monotone.proofs.History.{zeros_start, zeros-total, least_or_none, each_map, each_both, history, history_same}
+use Rattle.monotone.proofs.History.{zeros_start, zeros_total, least_or_none, each_map, each_both, history, history_same}
 use Rattle.model.specs.Refusals.{Check, pass, fail, ◌or_else◌, fail_if}
 use Rattle.model.specs.Film.{Film, size_of, system_of, rule, Feasible, Least}
 use Rattle.model.specs.Checks.{order_check, line_check, film_check}
@@ -22,66 +22,66 @@ use Rattle.model.specs.Run.{RunAnswer, run, run_check}
 use Rattle.model.specs.File.{Bytes}
 use Rattle.model.specs.EitherFile.{read_either}
 use Rattle.model.specs.Demand.{Call, Step, ran, proposed, call_of, calls_of, exit_of, refusal_of, verdict_of, Kept, zero_field, History, ruled, ruled_all, call_check, Holds, Claimed}
-use Rattle.model.proofs.Film.{rule_monotone, feasible_to, feasible-from, least-is, least_exists, least-feasible}
-use Rattle.model.proofs.Checks.{check_passes, accepted-positive}
-use Rattle.model.proofs.Refused.{run-refused, propose-refused}
+use Rattle.model.proofs.Film.{rule_monotone, feasible_to, feasible_from, least_is, least_exists, least_feasible}
+use Rattle.model.proofs.Checks.{check_passes, accepted_positive}
+use Rattle.model.proofs.Refused.{run_refused, propose_refused}
 use Rattle.model.proofs.History.{step_good}
-use Rattle.model.proofs.Forming.{field-accepted}
+use Rattle.model.proofs.Forming.{field_accepted}
 use Rattle.model.proofs.EitherFile.{file_film}
 
 -- ---- the steps are those that the rules give
 
-kept-ruled : (f : Film) (entry : List ℕ) (s : Step) → Kept f entry s → s ≡ ruled f (call_of s) entry
-kept-ruled f entry (ran budget order on answer exit) k = ap₂ (λ (a : Answer RunAnswer) (q : List ℕ). ran budget order on a q) k.answer-is k.lent_is
-kept-ruled f entry (proposed line proposal answer exit) k = ap₂ (λ (a : Answer ProposalAnswer) (q : List ℕ). proposed line proposal a q) k.answer-is k.lent_is
+kept_ruled : (f : Film) (entry : List ℕ) (s : Step) → Kept f entry s → s ≡ ruled f (call_of s) entry
+kept_ruled f entry (ran budget order on answer exit) k = ap₂ (λ (a : Answer RunAnswer) (q : List ℕ). ran budget order on a q) k.answer_is k.lent_is
+kept_ruled f entry (proposed line proposal answer exit) k = ap₂ (λ (a : Answer ProposalAnswer) (q : List ℕ). proposed line proposal a q) k.answer_is k.lent_is
 
-kept-results : (f : Film) (entry : List ℕ) (ss : List Step) → Each exit_of (Kept f) entry ss → ss ≡ ruled_all f (calls_of ss) entry
-kept-results f entry [] all = refl
-kept-results f entry (s ∷ ss) all =
-    let e = kept-ruled f entry s all.0 in
-    ap₂ (λ (t : Step) (ts : List Step). t ∷ ts) e (kept-results f (exit_of s) ss all.1 ∙ ap (λ (t : Step). ruled_all f (calls_of ss) (exit_of t)) e)
+kept_results : (f : Film) (entry : List ℕ) (ss : List Step) → Each exit_of (Kept f) entry ss → ss ≡ ruled_all f (calls_of ss) entry
+kept_results f entry [] all = refl
+kept_results f entry (s ∷ ss) all =
+    let e = kept_ruled f entry s all.0 in
+    ap₂ (λ (t : Step) (ts : List Step). t ∷ ts) e (kept_results f (exit_of s) ss all.1 ∙ ap (λ (t : Step). ruled_all f (calls_of ss) (exit_of t)) e)
 
 -- and those that the rules give are steps: every list of calls has a history
-ruled-kept : (f : Film) (c : Call) (p : List ℕ) → Kept f p (ruled f c p) × (call_of (ruled f c p) ≡ c)
-ruled-kept f (Call.run budget order on) p = (record { answer-is = refl; lent_is = refl }, refl)
-ruled-kept f (Call.propose line proposal) p = (record { answer-is = refl; lent_is = refl }, refl)
+ruled_kept : (f : Film) (c : Call) (p : List ℕ) → Kept f p (ruled f c p) × (call_of (ruled f c p) ≡ c)
+ruled_kept f (Call.run budget order on) p = (record { answer_is = refl; lent_is = refl }, refl)
+ruled_kept f (Call.propose line proposal) p = (record { answer_is = refl; lent_is = refl }, refl)
 
 all_kept : (f : Film) (cs : List Call) (p : List ℕ) → Each exit_of (Kept f) p (ruled_all f cs p) × (calls_of (ruled_all f cs p) ≡ cs)
 all_kept f [] p = (tt, refl)
 all_kept f (c ∷ cs) p =
-    let s = ruled-kept f c p in
+    let s = ruled_kept f c p in
     let ss = all_kept f cs (exit_of (ruled f c p)) in
     ((s.0, ss.0), ap₂ (λ (x : Call) (xs : List Call). x ∷ xs) s.1 ss.1)
 
 -- ---- refused steps
 
-found-by : {A : Type 0} (tests : Check) (a : A) → refusal_in (answer_by tests a) ≡ tests
-found-by pass a = refl
-found-by (fail number place) a = refl
+found_by : {A : Type 0} (tests : Check) (a : A) → refusal_in (answer_by tests a) ≡ tests
+found_by pass a = refl
+found_by (fail number place) a = refl
 
-refused-is : {A : Type 0} (x : Answer A) {number place : ℕ} → refusal_in x ≡ fail number place → x ≡ refused number place
-refused-is (answered a) e = let z : ◌≡◌ {A = ℕ} 0 1 = cc in absurd (omega arith)
-refused-is (refused n q) e = cc
+refused_is : {A : Type 0} (x : Answer A) {number place : ℕ} → refusal_in x ≡ fail number place → x ≡ refused number place
+refused_is (answered a) e = let z : ◌≡◌ {A = ℕ} 0 1 = cc in absurd (omega arith)
+refused_is (refused n q) e = cc
 
 step_unchanged : (f : Film) (entry : List ℕ) (s : Step) → Kept f entry s → (number place : ℕ) → refusal_of s ≡ fail number place → exit_of s ≡ entry
-step_unchanged f p (ran budget order on answer exit) k number place e = run-refused f budget order on p (rw (refused-is answer e) at k)
-step_unchanged f p (proposed line proposal answer exit) k number place e = propose-refused f line proposal p (rw (refused-is answer e) at k)
+step_unchanged f p (ran budget order on answer exit) k number place e = run_refused f budget order on p (rw (refused_is answer e) at k)
+step_unchanged f p (proposed line proposal answer exit) k number place e = propose_refused f line proposal p (rw (refused_is answer e) at k)
 
 module _ (f : Film) (A : Accepted f) where
   positive : Positive (system_of f)
-  positive = accepted-positive A
+  positive = accepted_positive A
 
   step_refusal : (entry : List ℕ) (s : Step) → Kept f entry s → theory.Bounded (rule f) entry → refusal_of s ≡ call_check f (call_of s)
   step_refusal p (ran budget order on answer exit) k B =
-      let passes : run_check f p order ≡ order_check order = field-accepted f p true (order_check order) pass A B ∙ or_pass (order_check order) in
-      ap refusal_in k.answer-is ∙ found-by _ (run f budget order on p).answer ∙ passes
+      let passes : run_check f p order ≡ order_check order = field_accepted f p true (order_check order) pass A B ∙ or_pass (order_check order) in
+      ap refusal_in k.answer_is ∙ found_by _ (run f budget order on p).answer ∙ passes
     where
       or_pass : (x : Check) → (x or_else pass) ≡ x
       or_pass pass = refl
       or_pass (fail number place) = refl
   step_refusal p (proposed line proposal answer exit) k B =
-      ap refusal_in k.answer-is ∙ found-by _ (propose f (line_start f line) proposal p).answer
-      ∙ field-accepted f p (eqb (length proposal) f.columns) pass (line_check f line) A B
+      ap refusal_in k.answer_is ∙ found_by _ (propose f (line_start f line) proposal p).answer
+      ∙ field_accepted f p (eqb (length proposal) f.columns) pass (line_check f line) A B
 
   -- ---- what holds of a history
 
@@ -92,14 +92,14 @@ module _ (f : Film) (A : Accepted f) where
     held : Holds f ss
     held =
         record {
-          results = kept-results f (zero_field f) ss H.kept;
+          results = kept_results f (zero_field f) ss H.kept;
           refusals = each_both exit_of step_refusal (zero_field f) ss H.kept promised.bounded;
           unchanged = each_map exit_of (step_unchanged f) (zero_field f) ss H.kept;
           rises = promised.rising;
           under = each_map exit_of (λ entry s h z m. h z (feasible_to f positive m)) (zero_field f) ss promised.under;
-          done-least = each_map exit_of (λ entry s h e. (feasible-from f positive (h e).feasible, λ z m. (h e).under z (feasible_to f positive m))) (zero_field f) ss promised.least;
+          done_least = each_map exit_of (λ entry s h e. (feasible_from f positive (h e).feasible, λ z m. (h e).under z (feasible_to f positive m))) (zero_field f) ss promised.least;
           over_none = each_map exit_of (λ entry s h e z m. h e z (feasible_to f positive m)) (zero_field f) ss promised.none;
-          stopped-least = λ q L. omega (arith, promised.few q (feasible_to f positive (least-feasible f positive L)));
+          stopped_least = λ q L. omega (arith, promised.few q (feasible_to f positive (least_feasible f positive L)));
           stopped_none = λ _. omega (arith, promised.few_ever);
         }
 
@@ -110,8 +110,8 @@ module _ (f : Film) (A : Accepted f) where
         same = λ ss ts G H. history_same (rule f) exit_of (verdict_of (size_of f)) (promised ss G) (promised ts H);
         every_list = λ cs. let r = all_kept f cs (zero_field f) in (ruled_all f cs (zero_field f), record { kept = r.0 }, r.1);
         least_exists = λ z m. let q = least_exists f positive m in (q.0, q.1);
-        least-feasible = λ q L. least-feasible f positive L;
-        least_or_none = ⊎_elim (λ l. inl (l.0, least-is f positive l.1)) (λ n. inr (λ z m. n z (feasible_to f positive m))) (least_or_none (rule f) (rule_monotone f positive));
+        least_feasible = λ q L. least_feasible f positive L;
+        least_or_none = ⊎_elim (λ l. inl (l.0, least_is f positive l.1)) (λ n. inr (λ z m. n z (feasible_to f positive m))) (least_or_none (rule f) (rule_monotone f positive));
       }
 
 -- every list of calls on a film that passes its tests, from the zero field

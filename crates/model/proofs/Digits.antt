@@ -10,7 +10,7 @@ use lib.Dec.{ltb}
 use lib.IntN.{sub_ℕ}
 use lib.ListN.{length, length-append}
 use Rattle.model.specs.Report.{decimal_digits, decimal, signed, ◌␣◌, line}
-use Rattle.model.proofs.Integers.{sub-lt, sub-le, by_order}
+use Rattle.model.proofs.Integers.{sub_lt, sub_le, by_order}
 
 -- one digit, and one digit after others
 digits_one : (most n : ℕ) → n < 10 → decimal_digits (suc most) n ≡ (48 + n) ∷ []
@@ -35,8 +35,8 @@ digits_room (suc k) n h =
     (λ l. digits_more (suc k) n l ∙ ap (λ (t : List ℕ). t ++ (48 + n % 10) ∷ []) shorter ∙ sym (digits_more (suc (suc k)) n l))
 
 -- the definition's step, for every number of 64 bits
-pub decimal-one : (n : ℕ) → n < 10 → decimal n ≡ (48 + n) ∷ []
-decimal-one n h = digits_one 19 n h
+pub decimal_one : (n : ℕ) → n < 10 → decimal n ≡ (48 + n) ∷ []
+decimal_one n h = digits_one 19 n h
 
 pub decimal_more : (n : ℕ) → 10 ≤ n → n < 2 ^ 64 → decimal n ≡ decimal (n / 10) ++ (48 + n % 10) ∷ []
 decimal_more n h l =
@@ -68,8 +68,8 @@ digits_length (suc most) (suc j) n h =
 pub decimal_most : (n : ℕ) → length (decimal n) ≤ 20
 decimal_most n = digits_most 20 n
 
-pub decimal-length : (j n : ℕ) → n < 10 ^ suc j → length (decimal n) ≤ suc j
-decimal-length j n h = digits_length 20 j n h
+pub decimal_length : (j n : ℕ) → n < 10 ^ suc j → length (decimal n) ≤ suc j
+decimal_length j n h = digits_length 20 j n h
 
 -- how many digits a row or column has
 abbrev pub width : ℕ → ℕ
@@ -82,31 +82,31 @@ width_most n = by_order n 10 (λ l. rw (lt-ltb n 10 l) (omega arith)) (λ l. rw 
 pub decimal_width : (n : ℕ) → n < 100 → length (decimal n) ≤ width n
 decimal_width n h =
     by_order n 10
-    (λ l. rw (lt-ltb n 10 l) (decimal-length 0 n l))
-    (λ l. rw (le-ltb n 10 l) (decimal-length 1 n h))
+    (λ l. rw (lt-ltb n 10 l) (decimal_length 0 n l))
+    (λ l. rw (le-ltb n 10 l) (decimal_length 1 n h))
 
 -- a difference of numbers below 10 ^ 16 has at most 16 digits and a sign
-pub signed-length : (a b : ℕ) → a < 10 ^ 16 → b < 10 ^ 16 → length (signed (sub_ℕ a b)) ≤ 17
-signed-length a b h k =
+pub signed_length : (a b : ℕ) → a < 10 ^ 16 → b < 10 ^ 16 → length (signed (sub_ℕ a b)) ≤ 17
+signed_length a b h k =
     by_order a b
-    (λ l. rw (sub-lt a b l) (omega (arith, decimal-length 15 (suc (b - suc a)) (omega arith))))
-    (λ l. rw (sub-le a b l) (omega (arith, decimal-length 15 (a - b) (omega arith))))
+    (λ l. rw (sub_lt a b l) (omega (arith, decimal_length 15 (suc (b - suc a)) (omega arith))))
+    (λ l. rw (sub_le a b l) (omega (arith, decimal_length 15 (a - b) (omega arith))))
 
 -- ---- lengths of lines
 
 -- the line's end, and a space
-line-length : (a : List ℕ) → length (line a) ≡ length a + 1
-line-length a = length-append a _
+line_length : (a : List ℕ) → length (line a) ≡ length a + 1
+line_length a = length-append a _
 
 space_length : (a b : List ℕ) → length (a ␣ b) ≡ length a + length b + 1
 space_length a b = omega (arith, length-append a (32 ∷ []), length-append (a ++ (32 ∷ [])) b)
 
 -- two, three and five words
 pub two_words : (a b : List ℕ) → length (line (a ␣ b)) ≡ length a + length b + 2
-two_words a b = omega (arith, line-length (a ␣ b), space_length a b)
+two_words a b = omega (arith, line_length (a ␣ b), space_length a b)
 
 pub three_words : (a b c : List ℕ) → length (line (a ␣ b ␣ c)) ≡ length a + length b + length c + 3
-three_words a b c = omega (arith, line-length (a ␣ b ␣ c), space_length a (b ␣ c), space_length b c)
+three_words a b c = omega (arith, line_length (a ␣ b ␣ c), space_length a (b ␣ c), space_length b c)
 
 pub five_words : (a b c d e : List ℕ) → length (line (a ␣ b ␣ c ␣ d ␣ e)) ≡ length a + length b + length c + length d + length e + 5
 five_words a b c d e = omega (arith, three_words a b (c ␣ d ␣ e), space_length c (d ␣ e), space_length d e)

@@ -19,10 +19,10 @@ use Rattle.model.specs.File.{shape_field, ceiling_field, weights_field, thicknes
 use Rattle.model.specs.CoefficientFile.{diagonals_field, rights_field, ups_field, sources_field, coefficients_in, film_in, coefficient_fields_in, coefficient_file_check, read_coefficients, coefficient_file_of}
 use Rattle.model.specs.EitherFile.{tagged06, formed_by, read_either}
 use Rattle.model.specs.Report.{report_by, report_of}
-use Rattle.model.proofs.Opening.{tag-refused, opening-refused}
+use Rattle.model.proofs.Opening.{tag_refused, opening_refused}
 use Rattle.model.proofs.File.{read_values, read_continues}
-use Rattle.model.proofs.Forming.{accepted_passes, formed-accepted}
-use Rattle.model.proofs.CoefficientFile.{coefficients-accepted, coefficients_continue, converted-reads}
+use Rattle.model.proofs.Forming.{accepted_passes, formed_accepted}
+use Rattle.model.proofs.CoefficientFile.{coefficients_accepted, coefficients_continue, converted_reads}
 
 -- ---- what the readers refuse
 
@@ -32,22 +32,22 @@ module _ (bytes : List ℕ) {number place : ℕ} where
   unfolding file_check
   gauged_fails e = ap (λ c. answer_by (c or_else held_check (weightless bytes) (formed (numbers_in bytes))) (gauge_in bytes)) e
 
-  coefficients-fail : fields_check (coefficient_fields_in bytes) bytes ≡ fail number place → read_coefficients bytes ≡ refused number place
+  coefficients_fail : fields_check (coefficient_fields_in bytes) bytes ≡ fail number place → read_coefficients bytes ≡ refused number place
   unfolding coefficient_file_check
-  coefficients-fail e = ap (λ c. answer_by (c or_else coefficient_check (coefficients_in bytes) or_else held_check (weightless bytes) (coefficients_in bytes)) (film_in bytes)) e
+  coefficients_fail e = ap (λ c. answer_by (c or_else coefficient_check (coefficients_in bytes) or_else held_check (weightless bytes) (coefficients_in bytes)) (film_in bytes)) e
 
 -- What fields 01 to 03 are refused for, both readers refuse alike: which one is chosen shows only once they pass.
 pub refused_alike : (bytes : List ℕ) (number place : ℕ) → walk (opening (carried_in bytes)) bytes 0 ≡ fail number place
     → (read_film bytes ≡ refused number place) × (read_coefficients bytes ≡ refused number place)
 refused_alike bytes number place e =
     let n = cells_in bytes in (
-      gauged_fails bytes (opening-refused bytes (thicknesses_field (ring_in bytes) ∷ wedge_field ∷ present gauged_optional (gauged_parts bytes)) number place e),
-      coefficients-fail bytes (opening-refused bytes (diagonals_field n ∷ rights_field n ∷ ups_field n ∷ sources_field n ∷ []) number place e),
+      gauged_fails bytes (opening_refused bytes (thicknesses_field (ring_in bytes) ∷ wedge_field ∷ present gauged_optional (gauged_parts bytes)) number place e),
+      coefficients_fail bytes (opening_refused bytes (diagonals_field n ∷ rights_field n ∷ ups_field n ∷ sources_field n ∷ []) number place e),
     )
 
 -- so is what field 01 is refused for, however many cells its shape says
-pub shape-refused : (bytes : List ℕ) (number place : ℕ) → field_test shape_field bytes 0 ≡ fail number place → read_either bytes ≡ refused number place
-shape-refused bytes number place e =
+pub shape_refused : (bytes : List ℕ) (number place : ℕ) → field_test shape_field bytes 0 ≡ fail number place → read_either bytes ≡ refused number place
+shape_refused bytes number place e =
     let r = refused_alike bytes number place (ap (λ c. c or_else walk (ceiling_field ∷ weights_field (carried_in bytes) ∷ []) bytes 5) e) in
     go (tagged06 bytes) r
   where
@@ -57,16 +57,16 @@ shape-refused bytes number place e =
     go false r = ap formed_by r.0
 
 -- The reader of gauged films refuses a coefficient film with 2 at tag 06, and the other way round.
-pub coefficients-not-gauged : (bytes : List ℕ) (f : Film) → read_coefficients bytes ≡ answered f
+pub coefficients_not_gauged : (bytes : List ℕ) (f : Film) → read_coefficients bytes ≡ answered f
     → read_film bytes ≡ refused 2 (fields_end (opening (carried_in bytes)) 0)
-coefficients-not-gauged bytes f e =
-    gauged_fails bytes (tag-refused bytes (thicknesses_field (ring_in bytes)) (wedge_field ∷ present gauged_optional (gauged_parts bytes)) 6 (coefficients_continue bytes f e) refl)
+coefficients_not_gauged bytes f e =
+    gauged_fails bytes (tag_refused bytes (thicknesses_field (ring_in bytes)) (wedge_field ∷ present gauged_optional (gauged_parts bytes)) 6 (coefficients_continue bytes f e) refl)
 
-pub gauged-not-coefficients : (bytes : List ℕ) (g : Gauge) → read_film bytes ≡ answered g
+pub gauged_not_coefficients : (bytes : List ℕ) (g : Gauge) → read_film bytes ≡ answered g
     → read_coefficients bytes ≡ refused 2 (fields_end (opening (carried_in bytes)) 0)
-gauged-not-coefficients bytes g e =
+gauged_not_coefficients bytes g e =
     let n = cells_in bytes in
-    coefficients-fail bytes (tag-refused bytes (diagonals_field n) (rights_field n ∷ ups_field n ∷ sources_field n ∷ []) 4 (read_continues bytes g e) refl)
+    coefficients_fail bytes (tag_refused bytes (diagonals_field n) (rights_field n ∷ ups_field n ∷ sources_field n ∷ []) 4 (read_continues bytes g e) refl)
 
 -- ---- an accepted file of either kind
 
@@ -100,8 +100,8 @@ pub either_accepted : (bytes : List ℕ) (f : Film) → Bytes bytes → read_eit
 either_accepted bytes f B e = go (kind_of_lem bytes f e)
   where
     go : Kind bytes f → Accepted f
-    go (by_gauge g r same) = let v = read_values bytes g B r in subst Accepted same (formed-accepted g v.0 v.1)
-    go (by_coefficients r) = coefficients-accepted bytes f r
+    go (by_gauge g r same) = let v = read_values bytes g B r in subst Accepted same (formed_accepted g v.0 v.1)
+    go (by_coefficients r) = coefficients_accepted bytes f r
 
 pub file_film : (bytes : List ℕ) (f : Film) → Bytes bytes → read_either bytes ≡ answered f → film_check f ≡ pass
 file_film bytes f B e = accepted_passes f (either_accepted bytes f B e)
@@ -109,12 +109,12 @@ file_film bytes f B e = accepted_passes f (either_accepted bytes f B e)
 -- ---- what is converted
 
 -- A gauged film's file and the converter's file of it have the same film: so every list of runs and proposals, and the report, are the same.
-pub converted-same : (bytes : List ℕ) (g : Gauge) → Bytes bytes → read_film bytes ≡ answered g
+pub converted_same : (bytes : List ℕ) (g : Gauge) → Bytes bytes → read_film bytes ≡ answered g
     → read_either (coefficient_file_of (formed g)) ≡ read_either bytes
-converted-same bytes g B e =
+converted_same bytes g B e =
     let v = read_values bytes g B e in
-    coefficients_either (coefficient_file_of (formed g)) (formed g) (converted-reads g v.0 v.1) ∙ sym (gauged_either bytes g e)
+    coefficients_either (coefficient_file_of (formed g)) (formed g) (converted_reads g v.0 v.1) ∙ sym (gauged_either bytes g e)
 
-pub converted-report : (bytes : List ℕ) (g : Gauge) → Bytes bytes → read_film bytes ≡ answered g
+pub converted_report : (bytes : List ℕ) (g : Gauge) → Bytes bytes → read_film bytes ≡ answered g
     → report_of (coefficient_file_of (formed g)) ≡ report_of bytes
-converted-report bytes g B e = ap report_by (converted-same bytes g B e)
+converted_report bytes g B e = ap report_by (converted_same bytes g B e)

@@ -24,9 +24,9 @@ unfolding floor_of
 floor_greatest m e n = ((le-div_iff_mul-le (down_pos e)).1, (le-div_iff_mul-le (down_pos e)).0)
 
 -- up to 2 ^ 53 every whole number is a float exactly
-whole-value : (n : ℕ) → n ≤ 2 ^ 53 → HasValue (float_of n) false n 1
+whole_value : (n : ℕ) → n ≤ 2 ^ 53 → HasValue (float_of n) false n 1
 unfolding of_int
-whole-value n h = round_whole binary64 false n h
+whole_value n h = round_whole binary64 false n h
 
 -- a ≤ b, and a ≤ −b where b is 0, as the order of floats tests them
 at_most : (a b : ℕ) → (ltb a b || (eqb a b && true)) ≡ leb a b
@@ -112,7 +112,7 @@ below (fin false p d) (fin false m e) k v z h =
 
 -- The test by which a program searches for the floor of x: in the order of floats n is at most x exactly where n is at most the floor.
 pub floor_test : (n : ℕ) (x : Float) → n ≤ 2 ^ 53 → T (finite x) → le (float_of 0) x ≡ true → le (float_of n) x ≡ leb n (floor_of x)
-floor_test n x h f z = at_floor (float_of n) x n (whole-value n h) f z
+floor_test n x h f z = at_floor (float_of n) x n (whole_value n h) f z
 
 pub floor_order : (n : ℕ) (x : Float) → n ≤ 2 ^ 53 → T (finite x) → le (float_of 0) x ≡ true → (le (float_of n) x ≡ true) ↔ (n ≤ floor_of x)
 floor_order n x h f z =
@@ -121,7 +121,7 @@ floor_order n x h f z =
 
 -- A float from 0 to k is no infinity and no NaN, and its floor is at most k.
 pub floor_below : (k : ℕ) (x : Float) → k ≤ 2 ^ 53 → le (float_of 0) x ≡ true → le x (float_of k) ≡ true → T (finite x) × (floor_of x ≤ k)
-floor_below k x h z b = below (float_of k) x k (whole-value k h) z b
+floor_below k x h z b = below (float_of k) x k (whole_value k h) z b
 
 -- Where document 01 takes the whole part, it is the greatest whole number not above the float.
 pub whole_part_greatest : (n : ℕ) (x : Float) → n ≤ 2 ^ 53 → le (float_of 0) x ≡ true → le x (float_of estimate_limit) ≡ true

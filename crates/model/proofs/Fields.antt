@@ -18,8 +18,8 @@ use Rattle.model.specs.Refusals.{pass, ◌or_else◌, fail_if}
 use Rattle.model.specs.Bytes.{byte_at, word_at}
 use Rattle.model.specs.Fields.{Field, body, behind, fields_end, field_at, field_test, walk, field, bytes_of}
 use Rattle.model.specs.File.{fields_check, Bytes}
-use Rattle.model.proofs.Lists.{tabulate-is, tabulate-add}
-use Rattle.model.proofs.Checks.{or_else_assoc, or_else_parts, fail_if-pass, pass_both}
+use Rattle.model.proofs.Lists.{tabulate_is, tabulate_add}
+use Rattle.model.proofs.Checks.{or_else_assoc, or_else_parts, fail_if_pass, pass_both}
 
 -- ---- a walk that passes
 
@@ -64,9 +64,9 @@ header l at tag size e =
     let b = or_else_parts (fail_if (not (eqb (byte_at l at) tag)) 2 at) _ a.1 in
     let c = or_else_parts (fail_if (not (eqb (word_at l (at + 1)) size)) 3 at) _ b.1 in
     record {
-      tag_is = eqb-true _ _ (not-false _ (fail_if-pass _ 2 at b.0));
-      size_is = eqb-true _ _ (not-false _ (fail_if-pass _ 3 at c.0));
-      fits = ltb-false _ _ (fail_if-pass _ 1 (length l) c.1);
+      tag_is = eqb-true _ _ (not-false _ (fail_if_pass _ 2 at b.0));
+      size_is = eqb-true _ _ (not-false _ (fail_if_pass _ 3 at c.0));
+      fits = ltb-false _ _ (fail_if_pass _ 1 (length l) c.1);
     }
 
 -- a list of fields that passes ends within the file
@@ -92,8 +92,8 @@ module _ {l : List ℕ} (B : Bytes l) where
       let b2 : byte_at l (at + 2) ≡ size % 256 = omega (arith, H.size_is, B.byte (at + 1 + 1)) in
       let place : (j : ℕ) → at + (3 + j) ≡ body at + j = λ j. omega arith in
       ap (λ k. tabulate k (byte_at l)) end
-      ∙ tabulate-add at (3 + size) (byte_at l)
-      ∙ ap (λ r. tabulate at (byte_at l) ++ r) (tabulate-add 3 size (λ j. byte_at l (at + j))
+      ∙ tabulate_add at (3 + size) (byte_at l)
+      ∙ ap (λ r. tabulate at (byte_at l) ++ r) (tabulate_add 3 size (λ j. byte_at l (at + j))
       ∙ (λ k. b0 k ∷ b1 k ∷ b2 k ∷ tabulate size (λ j. byte_at l (place j k))))
 
   -- the file up to the end of a list of fields
@@ -110,19 +110,19 @@ module _ {l : List ℕ} (B : Bytes l) where
 -- ---- a whole file
 
 -- its fields pass, and nothing follows them
-pub fields-pass : (fs : List Field) (l : List ℕ) → fields_check fs l ≡ pass → Passes fs l 0 × (length l ≤ fields_end fs 0)
-fields-pass fs l e =
+pub fields_pass : (fs : List Field) (l : List ℕ) → fields_check fs l ≡ pass → Passes fs l 0 × (length l ≤ fields_end fs 0)
+fields_pass fs l e =
     let a = or_else_parts (walk fs l 0) _ e in
-    (walk_passes fs l 0 a.0, ltb-false _ _ (fail_if-pass _ 2 _ a.1))
+    (walk_passes fs l 0 a.0, ltb-false _ _ (fail_if_pass _ 2 _ a.1))
 
-pub pass-fields : (fs : List Field) (l : List ℕ) → Passes fs l 0 → length l ≤ fields_end fs 0 → fields_check fs l ≡ pass
-pass-fields fs l p h = pass_both (passes_walk fs l 0 p) (rw (le-ltb (fields_end fs 0) (length l) h))
+pub pass_fields : (fs : List Field) (l : List ℕ) → Passes fs l 0 → length l ≤ fields_end fs 0 → fields_check fs l ≡ pass
+pass_fields fs l p h = pass_both (passes_walk fs l 0 p) (rw (le-ltb (fields_end fs 0) (length l) h))
 
 -- then it is those fields, with the bodies that stand there
 pub whole_file : {l : List ℕ} (B : Bytes l) (fs : List Field) → Passes fs l 0 → length l ≤ fields_end fs 0 → bytes_of fs (bodies_in fs l 0) ≡ l
 whole_file {l} B fs p h =
     let len : length l ≡ fields_end fs 0 = omega (arith, h, passes_end fs l 0 p (omega arith)) in
-    sym (walked B fs 0 p) ∙ sym (tabulate-is (fields_end fs 0) (byte_at l) 0 l len (λ i b. refl))
+    sym (walked B fs 0 p) ∙ sym (tabulate_is (fields_end fs 0) (byte_at l) 0 l len (λ i b. refl))
 
 -- ---- what is written stands at its offsets
 
@@ -147,16 +147,16 @@ pub record Stands (l : List ℕ) (at tag size : ℕ) (bytes : List ℕ) : Type 0
   pub inside : (j k : ℕ) → j < size → k ≡ body at + j → byte_at l k ≡ byte_at bytes j
 
 -- the offset at which a field ends
-field-length : (p : List ℕ) (at tag size : ℕ) (bytes : List ℕ) → length p ≡ at → length bytes ≡ size
+field_length : (p : List ℕ) (at tag size : ℕ) (bytes : List ℕ) → length p ≡ at → length bytes ≡ size
     → length (p ++ field tag size bytes) ≡ behind at size
-field-length p at tag size bytes e f = omega (arith, length-append p (field tag size bytes))
+field_length p at tag size bytes e f = omega (arith, length-append p (field tag size bytes))
 
 -- where a file begins with some bytes and a field, the field stands after those bytes
 stands : (l p : List ℕ) (at tag size : ℕ) (bytes : List ℕ) → length p ≡ at → length bytes ≡ size → Begins (p ++ field tag size bytes) l
     → Stands l at tag size bytes
 unfolding field_at
 stands l p at tag size bytes e f b =
-    let fits : behind at size ≤ length l = omega (arith, b.fits, field-length p at tag size bytes e f) in
+    let fits : behind at size ≤ length l = omega (arith, b.fits, field_length p at tag size bytes e f) in
     let h1 = here 1 (at + 1) (omega arith) refl in
     let h2 = here 2 (at + 1 + 1) (omega arith) (omega arith) in
     record {
@@ -174,7 +174,7 @@ stands l p at tag size bytes e f b =
     here j k h c =
         let place : k ≡ length p + j = omega arith in
         ap (byte_at l) place
-        ∙ b.same (length p + j) (omega (arith, field-length p at tag size bytes e f))
+        ∙ b.same (length p + j) (omega (arith, field_length p at tag size bytes e f))
         ∙ get_or-append-add p (field tag size bytes) j 0
 
 -- each body has its field's length
@@ -199,7 +199,7 @@ laid (f ∷ fs) (x ∷ bodies) l p at fit e b =
     let rest = bytes_of fs bodies in
     let b' : Begins (front ++ rest) l = subst (λ k. Begins k l) (sym (append_assoc p (field f.tag f.size x) rest)) b in (
       stands l p at f.tag f.size x e fit.0 (begins_less front rest l b'),
-      laid fs bodies l front (behind at f.size) fit.1 (field-length p at f.tag f.size x e fit.0) b',
+      laid fs bodies l front (behind at f.size) fit.1 (field_length p at f.tag f.size x e fit.0) b',
     )
 
 -- where a list of fields ends is the length of its bytes
@@ -236,9 +236,9 @@ end_above (f ∷ fs) at = omega (arith, end_above fs (behind at f.size))
 
 module _ {n : ℕ} {l m : List ℕ} (A : Agree n l m) where
   -- a field that ends within those bytes passes or fails alike
-  pub field-same : (at tag size : ℕ) → behind at size ≤ n → field_at l at tag size ≡ field_at m at tag size
+  pub field_same : (at tag size : ℕ) → behind at size ≤ n → field_at l at tag size ≡ field_at m at tag size
   unfolding field_at
-  field-same at tag size h =
+  field_same at tag size h =
       rw (
         le-ltb (length l) (body at) (omega (arith, A.left)),
         le-ltb (length m) (body at) (omega (arith, A.right)),
@@ -255,4 +255,4 @@ module _ {n : ℕ} {l m : List ℕ} (A : Agree n l m) where
       let next = behind at f.size in
       let low = end_above fs next in
       let values = a.0.alike l m (body at) (λ k b c. A.same k (omega arith)) in
-      ap₂ ◌or_else◌ (ap₂ ◌or_else◌ (field-same at f.tag f.size (omega arith)) values) (walk_same fs next a.1 h)
+      ap₂ ◌or_else◌ (ap₂ ◌or_else◌ (field_same at f.tag f.size (omega arith)) values) (walk_same fs next a.1 h)

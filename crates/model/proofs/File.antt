@@ -33,17 +33,17 @@ use Rattle.model.specs.Bytes.{byte_at, word_at, long_at, word, long, signed_of, 
 use Rattle.model.specs.Fields.{Field, body, fields_end, field_at, field, bytes_of, Optional, absent, parts_in, present, givens, fields_in}
 use Rattle.model.specs.File.{weights_from, thicknesses_from, thicknesses_field, wedge_field, gauged, rows_offset, columns_offset, ceiling_offset, weights_offset, thicknesses_offset, wedge_offset, end_offset, cells_in, ring_in, weightless, carried_in, gauged_in, numbers_in, gauge_in, gauge_dominance, fields_check, file_check, read_film, weight_bytes, bodies, file_of, gauge_check, Bytes, Values, InPlace, factors_from, steps_check, factors_at, steps_field, gauged_optional, steps_part, steps_of, gauged_parts, parts, gauged_fields, gauged_end}
 use Rattle.model.specs.FilmF.{bytes_f, FileEdges}
-use Rattle.model.proofs.Lists.{tabulate-length, tabulate-at, tabulate-is, tabulate_below}
-use Rattle.model.proofs.Checks.{or_else_parts, pass_both, fail_first-same, answer_passed, refusal_of_lem}
-use Rattle.model.proofs.Codes.{bytes_nil, bytes_cons, bytes_append, word_code, long_code, signed-long_code, within_abs, listed-length, listed-writes, listed_bytes}
-use Rattle.model.proofs.Fields.{Passes, fields-pass, pass-fields, bodies_in, whole_file, begins_whole, Fit, Laid, laid, bytes_length}
-use Rattle.model.proofs.Optional.{part_if, bodies_append, parts-bodies, parts-written}
-use Rattle.model.proofs.Opening.{has_weights, Continues, continues, number_inside, Opened, opening-reads}
+use Rattle.model.proofs.Lists.{tabulate_length, tabulate_at, tabulate_is, tabulate_below}
+use Rattle.model.proofs.Checks.{or_else_parts, pass_both, fail_first_same, answer_passed, refusal_of_lem}
+use Rattle.model.proofs.Codes.{bytes_nil, bytes_cons, bytes_append, word_code, long_code, signed_long_code, within_abs, listed_length, listed_writes, listed_bytes}
+use Rattle.model.proofs.Fields.{Passes, fields_pass, pass_fields, bodies_in, whole_file, begins_whole, Fit, Laid, laid, bytes_length}
+use Rattle.model.proofs.Optional.{part_if, bodies_append, parts_bodies, parts_written}
+use Rattle.model.proofs.Opening.{has_weights, Continues, continues, number_inside, Opened, opening_reads}
 use Rattle.model.proofs.Numbered.{searched_file}
-use Rattle.model.proofs.Weighing.{ones, found-least, found-accepted, none_found, least-weighted}
-use Rattle.model.proofs.Forming.{formed-limited, accepted_gauge}
+use Rattle.model.proofs.Weighing.{ones, found_least, found_accepted, none_found, least_weighted}
+use Rattle.model.proofs.Forming.{formed_limited, accepted_gauge}
 use Rattle.model.proofs.GaugeTests.{cells_of, ring_of, gauge_tests, thicknesses_anywhere, wedge_anywhere, steps_anywhere}
-pub use Rattle.model.proofs.GaugeTests.{NumbersPassed, GaugePassed, gauge_passes, gauge_shape, wedge-low, stepped}
+pub use Rattle.model.proofs.GaugeTests.{NumbersPassed, GaugePassed, gauge_passes, gauge_shape, wedge_low, stepped}
 
 -- ---- the fields and the numbers of a file with so many weights
 
@@ -75,37 +75,37 @@ standing l = numbers_by (cells_in l) l
 pub weights_alike : (l : List ℕ) (n at : ℕ)
     → weights_from (λ i. get_or (tabulate n (λ k. word_at l (at + 2 * k))) i 0) n at ≡ weights_from (λ i. word_at l (at + 2 * i)) n at
 weights_alike l n at =
-    fail_first-same _ _ n 6 (λ i. at + 2 * i) (λ i h. ap (λ w. eqb w 0) (tabulate-at n (λ k. word_at l (at + 2 * k)) 0 i h))
+    fail_first_same _ _ n 6 (λ i. at + 2 * i) (λ i h. ap (λ w. eqb w 0) (tabulate_at n (λ k. word_at l (at + 2 * k)) 0 i h))
 
 pub thicknesses_alike : (l : List ℕ) (n at : ℕ)
     → thicknesses_from (λ j. get_or (tabulate n (λ k. byte_at l (at + k))) j 0) n at ≡ thicknesses_from (λ j. byte_at l (at + j)) n at
 thicknesses_alike l n at =
-    fail_first-same _ _ n 7 (λ j. at + j) (λ j h. ap (λ x. outside x 1 thickness_limit) (tabulate-at n (λ k. byte_at l (at + k)) 0 j h))
+    fail_first_same _ _ n 7 (λ j. at + j) (λ j h. ap (λ x. outside x 1 thickness_limit) (tabulate_at n (λ k. byte_at l (at + k)) 0 j h))
 
 -- the steps in the body of their field are those that stand there, and are tested alike
 pub factors_in : (l : List ℕ) (at : ℕ) → factors_at (tabulate 2 (λ j. byte_at l (at + j))) 0 ≡ factors_at l at
 factors_in l at = λ k. record { along = byte_at l (add-zero at k); across = byte_at l (at + 1) }
 
-steps-pass : (l : List ℕ) (at : ℕ) (there : Bool) → Passes (present gauged_optional (part_if there steps_field l at ∷ [])) l at
+steps_pass : (l : List ℕ) (at : ℕ) (there : Bool) → Passes (present gauged_optional (part_if there steps_field l at ∷ [])) l at
     → steps_check (steps_of (part_if there steps_field l at)) (body at) ≡ pass
-steps-pass l at true p = ap (λ f. factors_from f (body at)) (factors_in l (body at)) ∙ p.1
-steps-pass l at false p = refl
+steps_pass l at true p = ap (λ f. factors_from f (body at)) (factors_in l (body at)) ∙ p.1
+steps_pass l at false p = refl
 
 -- so a walk over the film's fields tests the numbers that stand in the file; what weights the film has does not count here
-pub numbers-pass : (l : List ℕ) (w : ℕ) (weights : List ℕ) → Passes (fields_by w l) l 0 → NumbersPassed (weighted_gauge (numbers_by w l) weights)
-numbers-pass l w weights p =
+pub numbers_pass : (l : List ℕ) (w : ℕ) (weights : List ℕ) → Passes (fields_by w l) l 0 → NumbersPassed (weighted_gauge (numbers_by w l) weights)
+numbers_pass l w weights p =
     let at = end_offset w (ring_in l) in
     record {
       shape = p.1;
       ceiling = p.2.1;
       thicknesses = thicknesses_anywhere (λ j. get_or (numbers_by w l).thicknesses j 0) (ring_in l) (thicknesses_offset w) (thicknesses_offset (cells_in l)) (thicknesses_alike l (ring_in l) (thicknesses_offset w) ∙ p.2.2.2.1);
       wedge = wedge_anywhere (numbers_by w l).wedge (wedge_offset w (ring_in l)) (wedge_offset (cells_in l) (ring_in l)) p.2.2.2.2.1;
-      steps = steps_anywhere (numbers_by w l).steps (body at) _ (steps-pass l at (eqb (byte_at l at) 10) p.2.2.2.2.2);
+      steps = steps_anywhere (numbers_by w l).steps (body at) _ (steps_pass l at (eqb (byte_at l at) 10) p.2.2.2.2.2);
     }
 
 -- what the tests of the fields say of the steps that stand in a file
 pub steps_stepped : (l : List ℕ) → fields_check (gauged_in l) l ≡ pass → Stepped (factors_of (gauge_in l).steps)
-steps_stepped l e = stepped (gauge_in l).steps _ (numbers-pass l (carried_in l) [] (fields-pass (gauged_in l) l e).0).steps
+steps_stepped l e = stepped (gauge_in l).steps _ (numbers_pass l (carried_in l) [] (fields_pass (gauged_in l) l e).0).steps
 
 -- ---- what is read, by whether the file leaves the weights to the program
 
@@ -128,25 +128,25 @@ module _ (none : Bool) (l : List ℕ) where
   passed_by : check_by ≡ pass → PassedBy
   passed_by e =
       let a = or_else_parts (fields_check (fields_by has_of l) l) _ e in
-      let b = fields-pass (fields_by has_of l) l a.0 in
+      let b = fields_pass (fields_by has_of l) l a.0 in
       record { fields = b.0; ends = b.1; held = a.1 }
 
 -- weights that are found: the film's coefficients are within their limits, so the search is one that found the least
-formed-found : (l : List ℕ) → Passes (fields_by 0 l) l 0 → Limited (formed (weighted_gauge (numbers_by 0 l) (ones (cells_in l))))
-formed-found l p = formed-limited (weighted_gauge (numbers_by 0 l) (ones (cells_in l))) (numbers-pass l 0 (ones (cells_in l)) p) (tabulate-length _ _)
+formed_found : (l : List ℕ) → Passes (fields_by 0 l) l 0 → Limited (formed (weighted_gauge (numbers_by 0 l) (ones (cells_in l))))
+formed_found l p = formed_limited (weighted_gauge (numbers_by 0 l) (ones (cells_in l))) (numbers_pass l 0 (ones (cells_in l)) p) (tabulate_length _ _)
 
 pub found_in : (l : List ℕ) → PassedBy true l → LeastWeights (formed (numbers_by 0 l)) (found_weights (formed (numbers_by 0 l)))
-found_in l P = found-least (formed (numbers_by 0 l)) (ones (cells_in l)) (formed-found l P.fields) P.held
+found_in l P = found_least (formed (numbers_by 0 l)) (ones (cells_in l)) (formed_found l P.fields) P.held
 
 -- either way all tests of the film's numbers pass
 gauge_held : (none : Bool) (l : List ℕ) → PassedBy none l → GaugePassed (gauge_by none l)
 unfolding gauge_dominance dominance_check
 gauge_held true l P =
-    accepted_gauge (gauge_by true l) (numbers-pass l 0 (found_weights (formed (numbers_by 0 l))) P.fields)
-    (found-accepted (formed (numbers_by 0 l)) (ones (cells_in l)) (formed-found l P.fields) P.held)
+    accepted_gauge (gauge_by true l) (numbers_pass l 0 (found_weights (formed (numbers_by 0 l))) P.fields)
+    (found_accepted (formed (numbers_by 0 l)) (ones (cells_in l)) (formed_found l P.fields) P.held)
 gauge_held false l P =
     record {
-      numbers = numbers-pass l (cells_in l) (standing l).weights P.fields;
+      numbers = numbers_pass l (cells_in l) (standing l).weights P.fields;
       weights = weights_alike l (cells_in l) weights_offset ∙ P.fields.2.2.1;
       dominant = P.held;
     }
@@ -160,8 +160,8 @@ parts_fit (steps.Given f) = (refl, tt)
 
 bodies_fit : (g : Gauge) → Values g → Fit (gauged_fields g) (bodies g ++ givens (parts g))
 bodies_fit g v =
-    let weights : length (weight_bytes g.weights) ≡ 2 * cells_of g = listed-length word_code g.weights ∙ ap (λ n. 2 * n) v.weights-len in
-    (refl, (refl, (weights, (v.thicknesses-len, (refl, parts_fit g.steps)))))
+    let weights : length (weight_bytes g.weights) ≡ 2 * cells_of g = listed_length word_code g.weights ∙ ap (λ n. 2 * n) v.weights_len in
+    (refl, (refl, (weights, (v.thicknesses_len, (refl, parts_fit g.steps)))))
 
 file_laid : (g : Gauge) → Values g → Laid (gauged_fields g) (bodies g ++ givens (parts g)) (file_of g) 0
 unfolding file_of
@@ -175,14 +175,14 @@ steps_back (steps.Given f) = refl
 -- where a film's fields stand in a file that ends with them, the numbers in the file are the film's
 module _ (g : Gauge) (l : List ℕ) (v : Values g) (h : nat_abs g.wedge ≤ wedge_limit) (L : Laid (gauged_fields g) (bodies g ++ givens (parts g)) l 0) (ends : length l ≤ gauged_end g) where
   opened : Opened g.rows g.columns g.ceiling g.weights l
-  opened = opening-reads g.rows g.columns g.ceiling g.weights l v.weights-len v.ceiling-long (λ i b. v.weight-word i) L.0 L.1.0 L.1.1.0
+  opened = opening_reads g.rows g.columns g.ceiling g.weights l v.weights_len v.ceiling_long (λ i b. v.weight_word i) L.0 L.1.0 L.1.1.0
 
   laid_reads : standing l ≡ g
   laid_reads = λ k.
       record {
         rows = opened.rows_are k;
         columns = opened.columns_are k;
-        ceiling = opened.ceiling-is k;
+        ceiling = opened.ceiling_is k;
         weights = opened.weights_are k;
         thicknesses = thicknesses k;
         wedge = wedge k;
@@ -192,35 +192,35 @@ module _ (g : Gauge) (l : List ℕ) (v : Values g) (h : nat_abs g.wedge ≤ wedg
       thicknesses : (standing l).thicknesses ≡ g.thicknesses
       thicknesses =
           rw (opened.rows_are, opened.columns_are)
-          (sym (tabulate-is _ _ 0 g.thicknesses v.thicknesses-len
+          (sym (tabulate_is _ _ 0 g.thicknesses v.thicknesses_len
           (λ j b. sym (L.1.1.1.0.inside j (thicknesses_offset (cells_of g) + j) b refl))))
 
       wedge : (standing l).wedge ≡ g.wedge
       wedge =
           rw (opened.rows_are, opened.columns_are)
-          (number_inside signed-long_code g.wedge (within_abs 2147483648 g.wedge (omega arith)) L.1.1.1.1.0)
+          (number_inside signed_long_code g.wedge (within_abs 2147483648 g.wedge (omega arith)) L.1.1.1.1.0)
 
       found : parts_in gauged_optional l (end_offset (cells_of g) (ring_of g)) ≡ parts g
       found =
-          parts-written gauged_optional (parts g) l (end_offset (cells_of g) (ring_of g)) 0 (omega arith, tt) tt
+          parts_written gauged_optional (parts g) l (end_offset (cells_of g) (ring_of g)) 0 (omega arith, tt) tt
           (record { fit = parts_fit g.steps; laid = L.1.1.1.1.1; ends = ends })
 
       grid_steps : (standing l).steps ≡ g.steps
       grid_steps = rw (opened.rows_are, opened.columns_are) (ap (λ ps. steps_of (get_or ps 0 absent)) found ∙ steps_back g.steps)
 
 -- where the fields stand in a file, and the numbers in it have passed their tests, so has the walk
-steps-walk : (s : Steps) (l : List ℕ) (at : ℕ) → Laid (present gauged_optional (steps_part s ∷ [])) (givens (steps_part s ∷ [])) l at → steps_check s (body at) ≡ pass
+steps_walk : (s : Steps) (l : List ℕ) (at : ℕ) → Laid (present gauged_optional (steps_part s ∷ [])) (givens (steps_part s ∷ [])) l at → steps_check s (body at) ≡ pass
     → Passes (present gauged_optional (steps_part s ∷ [])) l at
-steps-walk steps.Absent l at L p = tt
-steps-walk (steps.Given f) l at L p =
+steps_walk steps.Absent l at L p = tt
+steps_walk (steps.Given f) l at L p =
     let along : byte_at l (body at) ≡ f.along = L.0.inside 0 (body at) (omega arith) (omega arith) in
     let across : byte_at l (body at + 1) ≡ f.across = L.0.inside 1 (body at + 1) (omega arith) refl in
     let same : factors_at l (body at) ≡ f = λ k. record { along = along k; across = across k } in
     (L.0.passes, ap (λ x. factors_from x (body at)) same ∙ p, tt)
 
-fields-walk : (l : List ℕ) → Laid (gauged_fields (standing l)) (bodies (standing l) ++ givens (parts (standing l))) l 0 → GaugePassed (standing l)
+fields_walk : (l : List ℕ) → Laid (gauged_fields (standing l)) (bodies (standing l) ++ givens (parts (standing l))) l 0 → GaugePassed (standing l)
     → Passes (gauged_fields (standing l)) l 0
-fields-walk l L p = (
+fields_walk l L p = (
   L.0.passes,
   p.numbers.shape,
   (
@@ -235,7 +235,7 @@ fields-walk l L p = (
         (
           L.1.1.1.1.0.passes,
           p.numbers.wedge,
-          steps-walk (standing l).steps l (end_offset (cells_in l) (ring_in l)) L.1.1.1.1.1 p.numbers.steps,
+          steps_walk (standing l).steps l (end_offset (cells_in l) (ring_in l)) L.1.1.1.1.1 p.numbers.steps,
         ),
       ),
     ),
@@ -261,21 +261,21 @@ file_weights : (g : Gauge) → Values g → 1 ≤ cells_of g → weightless (fil
 file_weights g v some = has_weights (file_of g) (cells_of g) (file_laid g v).1.1.0.passes some
 
 -- .. and reads back to the film's numbers.
-pub written-reads : (g : Gauge) → Values g → gauge_check g true ≡ pass → read_film (file_of g) ≡ answered g
+pub written_reads : (g : Gauge) → Values g → gauge_check g true ≡ pass → read_film (file_of g) ≡ answered g
 unfolding file_check gauge_dominance dominance_check
-written-reads g v e =
+written_reads g v e =
     let l = file_of g in
     let p = gauge_passes g e in
     let s = gauge_shape g p.numbers.shape in
     let L = file_laid g v in
-    let same : standing l ≡ g = laid_reads g l v (wedge-low p.numbers) L (omega (arith, file_length_lem g v)) in
+    let same : standing l ≡ g = laid_reads g l v (wedge_low p.numbers) L (omega (arith, file_length_lem g v)) in
     let here = subst (λ (h : Gauge). Laid (gauged_fields h) (bodies h ++ givens (parts h)) l 0) (sym same) L in
     let passed : GaugePassed (standing l) = subst GaugePassed (sym same) p in
     let end : length l ≡ gauged_end (standing l) = file_length_lem g v ∙ ap gauged_end (sym same) in
-    let fields = pass-fields (gauged_fields (standing l)) l (fields-walk l here passed) (omega (arith, end)) in
+    let fields = pass_fields (gauged_fields (standing l)) l (fields_walk l here passed) (omega (arith, end)) in
     let found : fields_check (fields_by (cells_in l) l) l ≡ pass =
     subst (λ ps. fields_check (gauged (cells_in l) (ring_in l) ++ present gauged_optional ps) l ≡ pass) (parts_in_lem l (cells_in l)) fields in
-    let carries : weightless l ≡ false = file_weights g v (mul-pos s.rows-some s.columns-some) in
+    let carries : weightless l ≡ false = file_weights g v (mul-pos s.rows_some s.columns_some) in
     ap (λ none. answer_by (check_by none l) (gauge_by none l)) carries ∙ ap₂ answer_by (pass_both found passed.dominant) same
 
 -- ---- the writer's file consists of bytes
@@ -296,7 +296,7 @@ fields_bytes (f ∷ fs) (b ∷ bs) n =
 steps_narrow : (s : Steps) → Stepped (factors_of s) → Narrow (present gauged_optional (steps_part s ∷ [])) (givens (steps_part s ∷ []))
 steps_narrow steps.Absent h = tt
 steps_narrow (steps.Given f) h =
-    (omega arith, omega arith, bytes_cons (omega (arith, h.along_low)) (bytes_cons (omega (arith, h.across-low)) bytes_nil), tt)
+    (omega arith, omega arith, bytes_cons (omega (arith, h.along_low)) (bytes_cons (omega (arith, h.across_low)) bytes_nil), tt)
 
 -- The file of numbers that pass their tests consists of bytes.
 pub file_bytes : (g : Gauge) → Values g → gauge_check g true ≡ pass → Bytes (file_of g)
@@ -304,9 +304,9 @@ unfolding file_of
 file_bytes g v e =
     let p = gauge_passes g e in
     let s = gauge_shape g p.numbers.shape in
-    let count : cells_of g ≤ side_limit * side_limit = mul-le-mul s.rows-low s.columns-low in
+    let count : cells_of g ≤ side_limit * side_limit = mul-le-mul s.rows_low s.columns_low in
     let shape : Bytes (g.rows ∷ g.columns ∷ []) = bytes_cons (omega arith) (bytes_cons (omega arith) bytes_nil) in
-    let wedge = signed-long_code.bytes g.wedge (within_abs 2147483648 g.wedge (omega (arith, wedge-low p.numbers))) in
+    let wedge = signed_long_code.bytes g.wedge (within_abs 2147483648 g.wedge (omega (arith, wedge_low p.numbers))) in
     let optional = steps_narrow g.steps (stepped g.steps _ p.numbers.steps) in
     fields_bytes (gauged_fields g) (bodies g ++ givens (parts g)) (
       omega arith,
@@ -315,11 +315,11 @@ file_bytes g v e =
       (
         omega arith,
         omega arith,
-        long_code.bytes g.ceiling v.ceiling-long,
+        long_code.bytes g.ceiling v.ceiling_long,
         (
           omega arith,
           omega arith,
-          listed_bytes word_code g.weights 0 (λ i b. v.weight-word i),
+          listed_bytes word_code g.weights 0 (λ i b. v.weight_word i),
           (omega arith, omega arith, record { byte = v.thickness_byte }, (omega arith, omega arith, wedge, optional)),
         ),
       ),
@@ -332,8 +332,8 @@ module _ {l : List ℕ} (B : Bytes l) where
   bodies_in_lem : (w : ℕ) → bodies_in (gauged w (ring_in l)) l 0 ≡ bodies (numbers_by w l)
   bodies_in_lem w =
       let ceiling = long_code.writes B ceiling_offset in
-      let weights = listed-writes word_code B w weights_offset in
-      let wedge = signed-long_code.writes B (wedge_offset w (ring_in l)) in
+      let weights = listed_writes word_code B w weights_offset in
+      let wedge = signed_long_code.writes B (wedge_offset w (ring_in l)) in
       λ k.
       ((numbers_by w l).rows ∷ (numbers_by w l).columns ∷ []) ∷ ceiling k ∷ weights k ∷ (numbers_by w l).thicknesses ∷ wedge k ∷ []
 
@@ -344,7 +344,7 @@ module _ {l : List ℕ} (B : Bytes l) where
       let required = gauged w (ring_in l) in
       let all : bodies_in (fields_by w l) l 0 ≡ bodies (numbers_by w l) ++ givens (parts_by w l) =
       bodies_append required (present gauged_optional (parts_by w l)) l 0
-      ∙ ap₂ (λ bs cs. bs ++ cs) (bodies_in_lem w) (parts-bodies gauged_optional l (end_offset w (ring_in l))) in
+      ∙ ap₂ (λ bs cs. bs ++ cs) (bodies_in_lem w) (parts_bodies gauged_optional l (end_offset w (ring_in l))) in
       ap (λ ps. bytes_of (required ++ present gauged_optional ps) (bodies (numbers_by w l) ++ givens ps)) (parts_in_lem l w)
       ∙ ap (bytes_of (fields_by w l)) (sym all)
       ∙ whole_file B (fields_by w l) p h
@@ -352,17 +352,17 @@ module _ {l : List ℕ} (B : Bytes l) where
   -- weights have two bytes, those that are found too
   weights_fit : (none : Bool) → PassedBy none l → (length (gauge_by none l).weights ≡ cells_in l) × ((i : ℕ) → get_or (gauge_by none l).weights i 0 < 65536)
   weights_fit true P = let W = found_in l P in (W.holds.len, λ i. omega (arith, W.low i))
-  weights_fit false P = (tabulate-length _ _, tabulate_below (cells_in l) _ 65536 (omega arith) (λ i. word_code.fits B (weights_offset + 2 * i)))
+  weights_fit false P = (tabulate_length _ _, tabulate_below (cells_in l) _ 65536 (omega arith) (λ i. word_code.fits B (weights_offset + 2 * i)))
 
   -- the numbers in the file have the lengths and widths that calls ask for
   fields_values : (none : Bool) → PassedBy none l → Values (gauge_by none l)
   fields_values none P =
       let W = weights_fit none P in
       record {
-        weights-len = W.0;
-        thicknesses-len = tabulate-length _ _;
-        ceiling-long = long_code.fits B ceiling_offset;
-        weight-word = W.1;
+        weights_len = W.0;
+        thicknesses_len = tabulate_length _ _;
+        ceiling_long = long_code.fits B ceiling_offset;
+        weight_word = W.1;
         thickness_byte = tabulate_below (ring_in l) _ 256 (omega arith) (λ j. B.byte (thicknesses_offset (has_of none l) + j));
       }
 
@@ -415,7 +415,7 @@ weights_placed bytes g B c e =
         record {
           front = field 1 2 (h.rows ∷ h.columns ∷ []) ++ field 2 4 (long h.ceiling);
           back = back;
-          front-len = refl;
+          front_len = refl;
           was = sym (fields_are B 0 P.fields P.ends);
           is = ap (λ (n : ℕ). field 1 2 (h.rows ∷ h.columns ∷ []) ++ field 2 4 (long h.ceiling) ++ field 3 n (weight_bytes (gauge_by true bytes).weights) ++ back) size;
         }
@@ -425,7 +425,7 @@ pub read_least : (bytes : List ℕ) (g : Gauge) → weightless bytes ≡ true �
 unfolding file_check
 read_least bytes g c e =
     let r = read_by true bytes g (subst (λ none. answer_by (check_by none bytes) (gauge_by none bytes) ≡ answered g) c e) in
-    subst (λ (h : Gauge). LeastWeights (formed h) h.weights) r.same (least-weighted (gauge_by true bytes).weights (found_in bytes r.passed))
+    subst (λ (h : Gauge). LeastWeights (formed h) h.weights) r.same (least_weighted (gauge_by true bytes).weights (found_in bytes r.passed))
 
 -- .. and where a file is refused with 16, no weights up to 65,535 do it.
 pub refused_none : (bytes : List ℕ) (i : ℕ) → read_film bytes ≡ refused 16 i
@@ -434,11 +434,11 @@ refused_none bytes i e z K low =
     let S = searched_file bytes i (refusal_of_lem _ _ e) in
     let fields : fields_check (fields_by 0 bytes) bytes ≡ pass = subst (λ none. fields_check (fields_by (has_of none bytes) bytes) bytes ≡ pass) S.none S.fields_passed in
     let searched : search_check (formed (numbers_by 0 bytes)) ≡ fail 16 i = subst (λ none. search_check (formed (numbers_by (has_of none bytes) bytes)) ≡ fail 16 i) S.none S.found in
-    none_found (formed (numbers_by 0 bytes)) (ones (cells_in bytes)) (formed-found bytes (fields-pass (fields_by 0 bytes) bytes fields).0) i searched z
+    none_found (formed (numbers_by 0 bytes)) (ones (cells_in bytes)) (formed_found bytes (fields_pass (fields_by 0 bytes) bytes fields).0) i searched z
     (subst (λ none. Weights (formed (numbers_by (has_of none bytes) bytes)) z) S.none K) low
 
 pub placed_reads : (bytes : List ℕ) (g : Gauge) → Bytes bytes → read_film bytes ≡ answered g → read_film (file_of g) ≡ read_film bytes
-placed_reads bytes g B e = let v = read_values bytes g B e in written-reads g v.0 v.1 ∙ sym e
+placed_reads bytes g B e = let v = read_values bytes g B e in written_reads g v.0 v.1 ∙ sym e
 
 -- ---- film F
 

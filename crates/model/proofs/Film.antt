@@ -15,34 +15,34 @@ use Rattle.monotone.specs.Field.{◌⊑◌}
 use Rattle.monotone.specs.Rule as theory
 use Rattle.monotone.specs.Linear.{Positive, Dominant}
 use Rattle.monotone.proofs.Order.{⊑-cells}
-use Rattle.monotone.proofs.Linear.{required-enough, required-least, linear_monotone, proposal_rises}
+use Rattle.monotone.proofs.Linear.{required_enough, required_least, linear_monotone, proposal_rises}
 use Rattle.monotone.proofs.History.{least_or_none}
 use Rattle.model.specs.Integers.{negative, at_most_zero, positive_part, negative_part}
 use Rattle.model.specs.Film.{Film, size_of, diagonal_at, source_at, pull_of, slack_of, slack, Feasible, Least, LeastFrom, system_of, rule}
 use Rattle.model.specs.Relaxation.{required_for}
-use Rattle.model.proofs.Integers.{sub_source, negative-sub, at_most_zero-sub}
+use Rattle.model.proofs.Integers.{sub_source, negative_sub, at_most_zero_sub}
 use Rattle.model.proofs.Lists.{get_d_low}
 
 -- The sign of a slack: what bears a cell (diagonal × pressure and the positive part of the source) against what it has to bear (the
 -- pull and the negative part of the source).
 module _ (d pull : ℕ) (s : ℤ) (v : ℕ) where
-  pub slack-negative : negative (slack_of d pull s v) ≡ ltb (d * v + positive_part s) (pull + negative_part s)
-  slack-negative = ap negative (sub_source (d * v) pull s) ∙ negative-sub (d * v + positive_part s) (pull + negative_part s)
+  pub slack_negative : negative (slack_of d pull s v) ≡ ltb (d * v + positive_part s) (pull + negative_part s)
+  slack_negative = ap negative (sub_source (d * v) pull s) ∙ negative_sub (d * v + positive_part s) (pull + negative_part s)
 
-  pub slack-at_most_zero : at_most_zero (slack_of d pull s v) ≡ leb (d * v + positive_part s) (pull + negative_part s)
-  slack-at_most_zero = ap at_most_zero (sub_source (d * v) pull s) ∙ at_most_zero-sub (d * v + positive_part s) (pull + negative_part s)
+  pub slack_at_most_zero : at_most_zero (slack_of d pull s v) ≡ leb (d * v + positive_part s) (pull + negative_part s)
+  slack_at_most_zero = ap at_most_zero (sub_source (d * v) pull s) ∙ at_most_zero_sub (d * v + positive_part s) (pull + negative_part s)
 
   -- what a cell requires (document 01: its need) is the least pressure whose slack is not negative
-  pub required-slack : 0 < d → (negative (slack_of d pull s v) ≡ false) ↔ (required_for d pull s ≤ v)
-  required-slack h = (
-    λ e. required-least d (positive_part s) (pull + negative_part s) v h (ltb-false _ _ (sym slack-negative ∙ e)),
-    λ l. slack-negative ∙ le-ltb _ _ (required-enough d (positive_part s) (pull + negative_part s) v h l),
+  pub required_slack : 0 < d → (negative (slack_of d pull s v) ≡ false) ↔ (required_for d pull s ≤ v)
+  required_slack h = (
+    λ e. required_least d (positive_part s) (pull + negative_part s) v h (ltb-false _ _ (sym slack_negative ∙ e)),
+    λ l. slack_negative ∙ le-ltb _ _ (required_enough d (positive_part s) (pull + negative_part s) v h l),
   )
 
 -- past its last cell a field counts as 0, so that the ceiling need be tested in cells only
-pub bounded-cells : {F : theory.Rule} {p : List ℕ} → length p ≡ F.size → ((i : ℕ) → i < F.size → get_or p i 0 ≤ F.ceiling)
+pub bounded_cells : {F : theory.Rule} {p : List ℕ} → length p ≡ F.size → ((i : ℕ) → i < F.size → get_or p i 0 ≤ F.ceiling)
     → theory.Bounded F p
-bounded-cells {F} {p} e h = record { len = e; low = get_d_low p F.size F.ceiling e h }
+bounded_cells {F} {p} e h = record { len = e; low = get_d_low p F.size F.ceiling e h }
 
 -- a film whose diagonals are all positive
 module _ (f : Film) (P : Positive (system_of f)) where
@@ -54,39 +54,39 @@ module _ (f : Film) (P : Positive (system_of f)) where
   pub feasible_to : {p : List ℕ} → Feasible f p → theory.Feasible (rule f) p
   feasible_to m =
       record {
-        bounded = bounded-cells m.len m.low;
-        met = λ i h. (required-slack _ _ _ _ (P.diagonal i h)).0 (m.met i h);
+        bounded = bounded_cells m.len m.low;
+        met = λ i h. (required_slack _ _ _ _ (P.diagonal i h)).0 (m.met i h);
       }
 
-  pub feasible-from : {p : List ℕ} → theory.Feasible (rule f) p → Feasible f p
-  feasible-from m =
+  pub feasible_from : {p : List ℕ} → theory.Feasible (rule f) p → Feasible f p
+  feasible_from m =
       record {
         len = m.bounded.len;
         low = λ i _. m.bounded.low i;
-        met = λ i h. (required-slack _ _ _ _ (P.diagonal i h)).1 (m.met i h);
+        met = λ i h. (required_slack _ _ _ _ (P.diagonal i h)).1 (m.met i h);
       }
 
   -- the theory's least field is document 01's: it takes the lowest pressure of each cell itself
-  pub least-is : {q : List ℕ} → theory.Least (rule f) q → Least f q
-  least-is {q} L =
+  pub least_is : {q : List ℕ} → theory.Least (rule f) q → Least f q
+  least_is {q} L =
       record {
         len = L.feasible.bounded.len;
         under = λ i _ z m. (L.under z (feasible_to m)).at i;
-        taken = λ i _. (q, feasible-from L.feasible, refl);
+        taken = λ i _. (q, feasible_from L.feasible, refl);
       }
 
   -- and so is its least field at or above a start
-  pub least-from : {p q : List ℕ} → length p ≡ size_of f → theory.LeastAbove (rule f) p q → LeastFrom f p q
-  least-from {p} {q} e L =
+  pub least_from : {p q : List ℕ} → length p ≡ size_of f → theory.LeastAbove (rule f) p q → LeastFrom f p q
+  least_from {p} {q} e L =
       record {
-        meets = feasible-from L.feasible;
+        meets = feasible_from L.feasible;
         above = λ i _. L.above.at i;
         under = λ i _ z m u. (L.under z (feasible_to m) (⊑-cells (size_of f) e u)).at i;
       }
 
   -- two least fields are the same
-  pub least-one : {p q : List ℕ} → Least f p → Least f q → p ≡ q
-  least-one {p} {q} A B =
+  pub least_one : {p q : List ℕ} → Least f p → Least f q → p ≡ q
+  least_one {p} {q} A B =
       ext_get_or 0 p q (A.len ∙ sym B.len)
       (λ i h. le_antisymm (lower A B i (omega (arith, A.len))) (lower B A i (omega (arith, A.len))))
     where
@@ -96,20 +96,20 @@ module _ (f : Film) (P : Positive (system_of f)) where
   -- where any field meets the film, there is a least field, and it meets the film too
   pub least_exists : {z : List ℕ} → Feasible f z → (q : List ℕ) × Least f q × Feasible f q
   least_exists {z} m =
-      ⊎_elim (λ l. (l.0, least-is l.1, feasible-from l.1.feasible)) (λ n. absurd (n z (feasible_to m)))
+      ⊎_elim (λ l. (l.0, least_is l.1, feasible_from l.1.feasible)) (λ n. absurd (n z (feasible_to m)))
       (least_or_none (rule f) rule_monotone)
 
   -- so does what document 01 calls the least field: its lowest pressures are taken by fields that meet the film, and it is the only one
-  pub least-feasible : {q : List ℕ} → Least f q → Feasible f q
-  least-feasible L =
+  pub least_feasible : {q : List ℕ} → Least f q → Feasible f q
+  least_feasible L =
       let t = L.taken 0 P.some in
       let l = least_exists t.1 in
-      rw (least-one L l.1) l.2
+      rw (least_one L l.1) l.2
 
 -- A film whose weights show that its matrix is Minkowski: a field that is above p only in cells whose slack is then at most 0 is nowhere above a
 -- satisfied field at or above p.
-pub rule-rises : (f : Film) (w : ℕ → ℕ) → Dominant (system_of f) w → {p q : List ℕ} → theory.Bounded (rule f) q → p ⊑ q
+pub rule_rises : (f : Film) (w : ℕ → ℕ) → Dominant (system_of f) w → {p q : List ℕ} → theory.Bounded (rule f) q → p ⊑ q
     → ((i : ℕ) → i < size_of f → get_or p i 0 < get_or q i 0 → at_most_zero (slack f q i) ≡ true) → theory.Rises (rule f) p q
-rule-rises f w D {p} {q} B up tight =
+rule_rises f w D {p} {q} B up tight =
     proposal_rises (system_of f) w D B up
-    (λ i b h. leb-true _ _ (sym (slack-at_most_zero (diagonal_at f i) (pull_of f q i) (source_at f i) (get_or q i 0)) ∙ tight i b h))
+    (λ i b h. leb-true _ _ (sym (slack_at_most_zero (diagonal_at f i) (pull_of f q i) (source_at f i) (get_or q i 0)) ∙ tight i b h))

@@ -15,7 +15,7 @@ use Rattle.model.specs.declared.Steps.TheVariants as steps
 use Rattle.model.specs.Gauge.{Gauge, factors_of, Stepped}
 use Rattle.model.specs.Checks.{outside, shape_check, ceiling_check}
 use Rattle.model.specs.File.{cells, ringed, thicknesses_from, wedge_check, steps_check, rows_offset, columns_offset, ceiling_offset, wedge_offset, steps_offset, gauge_dominance, weights_check, thicknesses_check, gauge_check}
-use Rattle.model.proofs.Checks.{within, or_else_parts, pass_both, fail_if-pass}
+use Rattle.model.proofs.Checks.{within, or_else_parts, pass_both, fail_if_pass}
 use Rattle.model.proofs.Opening.{Shaped, shape_passes}
 
 -- the number of a film's cells, and of its thicknesses
@@ -66,21 +66,21 @@ gauge_tests g p =
 pub gauge_shape : (g : Gauge) → shape_check g.rows rows_offset g.columns columns_offset ≡ pass → Shaped g.rows g.columns
 gauge_shape g e = shape_passes g.rows g.columns rows_offset columns_offset e
 
-pub wedge-low : {g : Gauge} → NumbersPassed g → nat_abs g.wedge ≤ wedge_limit
-wedge-low p = ltb-false _ _ (fail_if-pass _ 8 _ p.wedge)
+pub wedge_low : {g : Gauge} → NumbersPassed g → nat_abs g.wedge ≤ wedge_limit
+wedge_low p = ltb-false _ _ (fail_if_pass _ 8 _ p.wedge)
 
 pub stepped : (s : Steps) (at : ℕ) → steps_check s at ≡ pass → Stepped (factors_of s)
-stepped steps.Absent at e = record { along_some = omega arith; along_low = omega arith; across-some = omega arith; across-low = omega arith }
+stepped steps.Absent at e = record { along_some = omega arith; along_low = omega arith; across_some = omega arith; across_low = omega arith }
 stepped (steps.Given f) at e =
     let a = or_else_parts (fail_if (outside f.along 1 step_limit) 15 at) _ e in
-    let along = within f.along 1 step_limit (fail_if-pass _ 15 at a.0) in
-    let across = within f.across 1 step_limit (fail_if-pass _ 15 (at + 1) a.1) in
-    record { along_some = along.0; along_low = along.1; across-some = across.0; across-low = across.1 }
+    let along = within f.along 1 step_limit (fail_if_pass _ 15 at a.0) in
+    let across = within f.across 1 step_limit (fail_if_pass _ 15 (at + 1) a.1) in
+    record { along_some = along.0; along_low = along.1; across_some = across.0; across_low = across.1 }
 
 -- ---- whatever its place, a test that passes passes
 
 if_anywhere : (bad : Bool) (number place other : ℕ) → fail_if bad number place ≡ pass → fail_if bad number other ≡ pass
-if_anywhere bad number place other e = rw (fail_if-pass bad number place e)
+if_anywhere bad number place other e = rw (fail_if_pass bad number place e)
 
 pub thicknesses_anywhere : (thickness : ℕ → ℕ) (n at other : ℕ) → thicknesses_from thickness n at ≡ pass → thicknesses_from thickness n other ≡ pass
 thicknesses_anywhere thickness n at other e =

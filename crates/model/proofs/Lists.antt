@@ -13,23 +13,23 @@ use lib.Seq.{ext_get_or}
 use Rattle.model.specs.Lists.{tabulate, first_of, count_below, all_below, greatest}
 
 module _ {A : Type 0} where
-  pub tabulate-length : (n : ℕ) (g : ℕ → A) → length (tabulate n g) ≡ n
-  tabulate-length zero g = refl
-  tabulate-length (suc n) g = ap suc (tabulate-length n (λ i. g (suc i)))
+  pub tabulate_length : (n : ℕ) (g : ℕ → A) → length (tabulate n g) ≡ n
+  tabulate_length zero g = refl
+  tabulate_length (suc n) g = ap suc (tabulate_length n (λ i. g (suc i)))
 
-  pub tabulate-at : (n : ℕ) (g : ℕ → A) (d : A) (i : ℕ) → i < n → get_or (tabulate n g) i d ≡ g i
-  tabulate-at zero g d i h = absurd (omega arith)
-  tabulate-at (suc n) g d zero h = refl
-  tabulate-at (suc n) g d (suc i) h = tabulate-at n (λ i. g (suc i)) d i (le_of_suc-le-suc h)
+  pub tabulate_at : (n : ℕ) (g : ℕ → A) (d : A) (i : ℕ) → i < n → get_or (tabulate n g) i d ≡ g i
+  tabulate_at zero g d i h = absurd (omega arith)
+  tabulate_at (suc n) g d zero h = refl
+  tabulate_at (suc n) g d (suc i) h = tabulate_at n (λ i. g (suc i)) d i (le_of_suc-le-suc h)
 
   -- a list is tabulated if it has that length and those elements
-  pub tabulate-is : (n : ℕ) (g : ℕ → A) (d : A) (l : List A) → length l ≡ n → ((i : ℕ) → i < n → get_or l i d ≡ g i) → l ≡ tabulate n g
-  tabulate-is n g d l e h =
-      ext_get_or d l (tabulate n g) (e ∙ sym (tabulate-length n g)) (λ i b. h i (omega arith) ∙ sym (tabulate-at n g d i (omega arith)))
+  pub tabulate_is : (n : ℕ) (g : ℕ → A) (d : A) (l : List A) → length l ≡ n → ((i : ℕ) → i < n → get_or l i d ≡ g i) → l ≡ tabulate n g
+  tabulate_is n g d l e h =
+      ext_get_or d l (tabulate n g) (e ∙ sym (tabulate_length n g)) (λ i b. h i (omega arith) ∙ sym (tabulate_at n g d i (omega arith)))
 
   -- lists by index are equal where their elements are
-  pub tabulate-same : (d : A) (n : ℕ) (f g : ℕ → A) → ((i : ℕ) → i < n → f i ≡ g i) → tabulate n f ≡ tabulate n g
-  tabulate-same d n f g h = tabulate-is n g d (tabulate n f) (tabulate-length n f) (λ i b. tabulate-at n f d i b ∙ h i b)
+  pub tabulate_same : (d : A) (n : ℕ) (f g : ℕ → A) → ((i : ℕ) → i < n → f i ≡ g i) → tabulate n f ≡ tabulate n g
+  tabulate_same d n f g h = tabulate_is n g d (tabulate n f) (tabulate_length n f) (λ i b. tabulate_at n f d i b ∙ h i b)
 
 -- a list by index, in two parts
 -- the start of a list of one number
@@ -42,9 +42,9 @@ module _ {A : Type 0} (x : A) where
   pub take_same : (n m : ℕ) {k : ℕ} → n ≤ m → n ≡ k → take n (replicate m x) ≡ replicate k x
   take_same n m h e = front n m h ∙ ap (λ (k : ℕ). replicate k x) e
 
-pub tabulate-add : (a b : ℕ) (f : ℕ → ℕ) → tabulate (a + b) f ≡ tabulate a f ++ tabulate b (λ j. f (a + j))
-tabulate-add zero b f = simp zero-add
-tabulate-add (suc a) b f = simp suc-add (ap (λ r. f 0 ∷ r) (tabulate-add a b (λ j. f (suc j))))
+pub tabulate_add : (a b : ℕ) (f : ℕ → ℕ) → tabulate (a + b) f ≡ tabulate a f ++ tabulate b (λ j. f (a + j))
+tabulate_add zero b f = simp zero-add
+tabulate_add (suc a) b f = simp suc-add (ap (λ r. f 0 ∷ r) (tabulate_add a b (λ j. f (suc j))))
 
 -- a bound of its numbers holds of every index, past its end too
 pub tabulate_below : (n : ℕ) (f : ℕ → ℕ) (k : ℕ) → 0 < k → ((i : ℕ) → f i < k) → (i : ℕ) → get_or (tabulate n f) i 0 < k
@@ -66,8 +66,8 @@ module _ (test : ℕ → Bool) where
   unfolding first_of
   first_step n e f = rw (e, le-ltb n n (le_refl n), f)
 
-  pub first-none : (n : ℕ) → first_of test n ≡ n → test n ≡ false → first_of test (n + 1) ≡ n + 1
-  first-none n e f = rw add-one (first_step n e f)
+  pub first_none : (n : ℕ) → first_of test n ≡ n → test n ≡ false → first_of test (n + 1) ≡ n + 1
+  first_none n e f = rw add-one (first_step n e f)
 
   first_here : (n : ℕ) → first_of test n ≡ n → test n ≡ true → first_of test (suc n) ≡ n
   unfolding first_of
@@ -128,10 +128,10 @@ module _ (test : ℕ → Bool) where
       go (miss e m) = omega arith
 
 -- tests that agree below n find the same
-pub first-same : (test other : ℕ → Bool) (n : ℕ) → ((i : ℕ) → i < n → test i ≡ other i) → first_of test n ≡ first_of other n
+pub first_same : (test other : ℕ → Bool) (n : ℕ) → ((i : ℕ) → i < n → test i ≡ other i) → first_of test n ≡ first_of other n
 unfolding first_of
-first-same test other zero h = refl
-first-same test other (suc n) h = rw (first-same test other n (λ i l. h i (omega arith)), h n (omega arith))
+first_same test other zero h = refl
+first_same test other (suc n) h = rw (first_same test other n (λ i l. h i (omega arith)), h n (omega arith))
 
 -- A test of all numbers below n, and a count of those that pass: one number more, as a loop goes on.
 module _ (test : ℕ → Bool) where
@@ -196,14 +196,14 @@ module _ (g : ℕ → ℕ) where
   pub greatest_more : (n : ℕ) → greatest g (n + 1) ≡ max (greatest g n) (g n)
   greatest_more n = rw add-one
 
-  pub greatest-above : (n i : ℕ) → i < n → g i ≤ greatest g n
-  greatest-above zero i h = absurd (omega arith)
-  greatest-above (suc n) i h =
+  pub greatest_above : (n i : ℕ) → i < n → g i ≤ greatest g n
+  greatest_above zero i h = absurd (omega arith)
+  greatest_above (suc n) i h =
       elim (dec_lt i n) [
-        | yes l ↦ omega (arith, greatest-above n i l)
+        | yes l ↦ omega (arith, greatest_above n i l)
         | no l ↦ let e : g i ≡ g n = ap g (le_antisymm (omega arith) (omega arith)) in omega arith
       ]
 
-  pub greatest-least : (n k : ℕ) → ((i : ℕ) → i < n → g i ≤ k) → greatest g n ≤ k
-  greatest-least zero k h = omega arith
-  greatest-least (suc n) k h = omega (arith, greatest-least n k (λ i l. h i (omega arith)), h n (omega arith))
+  pub greatest_least : (n k : ℕ) → ((i : ℕ) → i < n → g i ≤ k) → greatest g n ≤ k
+  greatest_least zero k h = omega arith
+  greatest_least (suc n) k h = omega (arith, greatest_least n k (λ i l. h i (omega arith)), h n (omega arith))

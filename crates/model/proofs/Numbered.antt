@@ -30,8 +30,8 @@ use Rattle.model.proofs.Checks.{and_parts, pass_both}
 record Fails (P : ℕ → Type 0) (c : Check) : Type 0 where
   pub by : (number place : ℕ) → c ≡ fail number place → P number
 
-by-pass : {P : ℕ → Type 0} → Fails P pass
-by-pass = record { by = λ number place e. let z : ◌≡◌ {A = ℕ} 0 1 = cc in absurd (omega arith) }
+by_pass : {P : ℕ → Type 0} → Fails P pass
+by_pass = record { by = λ number place e. let z : ◌≡◌ {A = ℕ} 0 1 = cc in absurd (omega arith) }
 
 by_or : {P : ℕ → Type 0} (x y : Check) → Fails P x → Fails P y → Fails P (x or_else y)
 by_or pass y a b = b
@@ -39,7 +39,7 @@ by_or (fail number place) y a b = a
 
 by_if : {P : ℕ → Type 0} (bad : Bool) (number place : ℕ) → P number → Fails P (fail_if bad number place)
 by_if {P} true number place h = record { by = λ n q e. let z : number ≡ n = cc in subst P z h }
-by_if false number place h = by-pass
+by_if false number place h = by_pass
 
 by_first : {P : ℕ → Type 0} (bad : ℕ → Bool) (n number : ℕ) (place : ℕ → ℕ) → P number → Fails P (fail_first bad n number place)
 by_first bad n number place h = by_if (ltb (first_of bad n) n) number (place (first_of bad n)) h
@@ -70,11 +70,11 @@ field_early f p fits order place a b =
     (by_or _ _ coefficients (by_or _ _ weights (by_or _ _ dominance (by_or _ _ a (by_or _ _ start b)))))
 
 pub run_numbered : (f : Film) (p : List ℕ) (order : ℕ) → Numbered (run_check f p order)
-run_numbered f p order = numbered (some_number (field_early f p true (order_check order) pass (by_if (ltb 2 order) 11 0 refl) by-pass))
+run_numbered f p order = numbered (some_number (field_early f p true (order_check order) pass (by_if (ltb 2 order) 11 0 refl) by_pass))
 
 pub row_numbered : (f : Film) (p numbers : List ℕ) (line : ℕ) → Numbered (row_check f p numbers line)
 row_numbered f p numbers line =
-    numbered (some_number (field_early f p (eqb (length numbers) f.columns) pass (line_check f line) by-pass (by_if (outside line 1 f.rows) 13 0 refl)))
+    numbered (some_number (field_early f p (eqb (length numbers) f.columns) pass (line_check f line) by_pass (by_if (outside line 1 f.rows) 13 0 refl)))
 
 -- ---- the reader
 
@@ -83,17 +83,17 @@ abbrev AllEarly : List Field → Type 0
 AllEarly [] = Unit {0}
 AllEarly (f ∷ fs) = ((bytes : List ℕ) (at : ℕ) → Fails Early (f.check bytes at)) × AllEarly fs
 
-field-at_early : (bytes : List ℕ) (at tag size : ℕ) → Fails Early (field_at bytes at tag size)
+field_at_early : (bytes : List ℕ) (at tag size : ℕ) → Fails Early (field_at bytes at tag size)
 unfolding field_at
-field-at_early bytes at tag size =
+field_at_early bytes at tag size =
     by_or _ _ (by_if (ltb (length bytes) (body at)) 1 (length bytes) refl)
     (by_or _ _ (by_if (not (eqb (byte_at bytes at) tag)) 2 at refl)
     (by_or _ _ (by_if (not (eqb (word_at bytes (at + 1)) size)) 3 at refl) (by_if (ltb (length bytes) (behind at size)) 1 (length bytes) refl)))
 
 walk_early : (fs : List Field) (bytes : List ℕ) (at : ℕ) → AllEarly fs → Fails Early (walk fs bytes at)
-walk_early [] bytes at all = by-pass
+walk_early [] bytes at all = by_pass
 walk_early (f ∷ fs) bytes at all =
-    by_or _ _ (by_or _ _ (field-at_early bytes at f.tag f.size) (all.0 bytes (body at))) (walk_early fs bytes (behind at f.size) all.1)
+    by_or _ _ (by_or _ _ (field_at_early bytes at f.tag f.size) (all.0 bytes (body at))) (walk_early fs bytes (behind at f.size) all.1)
 
 shape_early : (bytes : List ℕ) (at : ℕ) → Fails Early (shape_field.check bytes at)
 shape_early bytes at =
@@ -118,7 +118,7 @@ coefficients_early : (w n : ℕ) → AllEarly (coefficient_fields w n)
 coefficients_early w n = (shape_early, (ceiling_early, (weights_early w, (untested, (untested, (untested, (untested, tt)))))))
   where
     untested : (bytes : List ℕ) (at : ℕ) → Fails Early pass
-    untested bytes at = by-pass
+    untested bytes at = by_pass
 
 optional_early : AllEarly gauged_optional
 optional_early = (factors, tt)
@@ -141,8 +141,8 @@ fields_early fields bytes all =
     by_or _ _ (walk_early fields bytes 0 all) (by_if (ltb (fields_end fields 0) (length bytes)) 2 (fields_end fields 0) refl)
 
 -- the fields that a file of either kind has
-gauged-fields_early : (bytes : List ℕ) → Fails Early (fields_check (gauged_in bytes) bytes)
-gauged-fields_early bytes =
+gauged_fields_early : (bytes : List ℕ) → Fails Early (fields_check (gauged_in bytes) bytes)
+gauged_fields_early bytes =
     fields_early (gauged_in bytes) bytes
     (all_present (gauged (carried_in bytes) (ring_in bytes)) gauged_optional (gauged_parts bytes) (gauged_early (carried_in bytes) (ring_in bytes)) optional_early)
 
@@ -159,7 +159,7 @@ dominance_early f = by_first (not_dominant f) (size_of f) 9 (λ i. i) refl
 
 -- 9, or 16 and 17
 searched_numbered : (a : RunAnswer) → Fails (λ number. 0 < number) (searched_check a)
-searched_numbered (done c) = by-pass
+searched_numbered (done c) = by_pass
 searched_numbered (over i c) = by_if true 16 i (omega arith)
 searched_numbered (stopped c) = by_if true 17 0 (omega arith)
 
@@ -172,7 +172,7 @@ unfolding file_check
 load_numbered bytes weights thicknesses =
     numbered
     (by_or _ _ (by_if (not (eqb (length weights) 1024 && eqb (length thicknesses) 1156)) 10 0 (omega arith))
-    (by_or _ _ (some_number (gauged-fields_early bytes)) (held_numbered (weightless bytes) (formed (numbers_in bytes)))))
+    (by_or _ _ (some_number (gauged_fields_early bytes)) (held_numbered (weightless bytes) (formed (numbers_in bytes)))))
 
 pub coefficient_load_numbered : (bytes weights diagonals rights ups : List ℕ) (sources : List ℤ) → Numbered (coefficient_load_check bytes weights diagonals rights ups sources)
 unfolding coefficient_file_check
@@ -202,7 +202,7 @@ pub record Searched (bytes : List ℕ) (fields : Check) (f : Film) (i : ℕ) : T
 pub searched_file : (bytes : List ℕ) (i : ℕ) → file_check bytes ≡ fail 16 i → Searched bytes (fields_check (gauged_in bytes) bytes) (formed (numbers_in bytes)) i
 unfolding file_check
 searched_file bytes i e =
-    let a = late _ _ (gauged-fields_early bytes) e in
+    let a = late _ _ (gauged_fields_early bytes) e in
     let b = searched (weightless bytes) (formed (numbers_in bytes)) a.1 in
     record { none = b.0; fields_passed = a.0; found = b.1 }
 

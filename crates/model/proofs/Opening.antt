@@ -14,24 +14,24 @@ use Rattle.model.specs.Checks.{outside, shape_check}
 use Rattle.model.specs.Bytes.{byte_at, word_at, long_at, long, listed}
 use Rattle.model.specs.Fields.{Field, body, behind, fields_end, field_at, walk, unexpected_at, field}
 use Rattle.model.specs.File.{cells, shape_field, ceiling_field, opening, rows_offset, columns_offset, ceiling_offset, weights_offset, cells_in, weightless, carried, carried_in, fields_check, weight_bytes, InPlace}
-use Rattle.model.proofs.Lists.{tabulate-is}
-use Rattle.model.proofs.Checks.{within, or_else_parts, fail_if-pass}
-use Rattle.model.proofs.Codes.{Code, word_code, long_code, listed-length, listed-reads}
+use Rattle.model.proofs.Lists.{tabulate_is}
+use Rattle.model.proofs.Checks.{within, or_else_parts, fail_if_pass}
+use Rattle.model.proofs.Codes.{Code, word_code, long_code, listed_length, listed_reads}
 use Rattle.model.proofs.Fields.{Passes, passes_walk, walk_append, header, Stands}
 
 -- what the test of the shape says
 pub record Shaped (rows columns : ℕ) : Type 0 where
-  pub rows-some : 1 ≤ rows
-  pub rows-low : rows ≤ side_limit
-  pub columns-some : 1 ≤ columns
-  pub columns-low : columns ≤ side_limit
+  pub rows_some : 1 ≤ rows
+  pub rows_low : rows ≤ side_limit
+  pub columns_some : 1 ≤ columns
+  pub columns_low : columns ≤ side_limit
 
 pub shape_passes : (rows columns a b : ℕ) → shape_check rows a columns b ≡ pass → Shaped rows columns
 shape_passes rows columns a b e =
     let s = or_else_parts (fail_if (outside rows 1 side_limit) 4 a) _ e in
-    let r = within rows 1 side_limit (fail_if-pass _ 4 a s.0) in
-    let c = within columns 1 side_limit (fail_if-pass _ 4 b s.1) in
-    record { rows-some = r.0; rows-low = r.1; columns-some = c.0; columns-low = c.1 }
+    let r = within rows 1 side_limit (fail_if_pass _ 4 a s.0) in
+    let c = within columns 1 side_limit (fail_if_pass _ 4 b s.1) in
+    record { rows_some = r.0; rows_low = r.1; columns_some = c.0; columns_low = c.1 }
 
 -- ---- whether a file has its weights
 
@@ -42,8 +42,8 @@ has_weights l n e h =
     ne_eqb (word_at l (fields_end (shape_field ∷ ceiling_field ∷ []) 0 + 1)) 0 (λ z. omega (arith, size, z, h))
 
 -- a file has a weight for each of n cells, or none
-pub carried-low : (l : List ℕ) (n : ℕ) → carried l n ≤ n
-carried-low l n = go (weightless l)
+pub carried_low : (l : List ℕ) (n : ℕ) → carried l n ≤ n
+carried_low l n = go (weightless l)
   where
     go : (none : Bool) → cond none 0 n ≤ n
     go true = omega arith
@@ -70,19 +70,19 @@ continues l f gs p =
     }
 
 -- a kind of file whose next field has another tag refuses such a file there
-pub tag-refused : (l : List ℕ) (f : Field) (gs : List Field) (tag : ℕ) → Continues l tag → eqb tag f.tag ≡ false
+pub tag_refused : (l : List ℕ) (f : Field) (gs : List Field) (tag : ℕ) → Continues l tag → eqb tag f.tag ≡ false
     → fields_check (opening (carried_in l) ++ (f ∷ gs)) l ≡ fail 2 (fields_end (opening (carried_in l)) 0)
 unfolding field_at
-tag-refused l f gs tag c e =
+tag_refused l f gs tag c e =
     let at = fields_end (opening (carried_in l)) 0 in
     let here : field_at l at f.tag f.size ≡ fail 2 at = rw (le-ltb (length l) (body at) c.fits, c.tag_is, e) in
     ap (λ x. x or_else unexpected_at l (fields_end (opening (carried_in l) ++ (f ∷ gs)) 0)) (walk_append (opening (carried_in l)) (f ∷ gs) l 0
     ∙ (λ k. c.opens k or_else ((here k or_else f.check l (body at)) or_else walk gs l (behind at f.size))))
 
 -- what one of the three refuses, each kind of file refuses alike, whatever follows
-pub opening-refused : (l : List ℕ) (rest : List Field) (number place : ℕ) → walk (opening (carried_in l)) l 0 ≡ fail number place
+pub opening_refused : (l : List ℕ) (rest : List Field) (number place : ℕ) → walk (opening (carried_in l)) l 0 ≡ fail number place
     → fields_check (opening (carried_in l) ++ rest) l ≡ fail number place
-opening-refused l rest number place e =
+opening_refused l rest number place e =
     ap (λ x. x or_else unexpected_at l (fields_end (opening (carried_in l) ++ rest) 0)) (walk_append (opening (carried_in l)) rest l 0
     ∙ ap (λ x. x or_else walk rest l (fields_end (opening (carried_in l)) 0)) e)
 
@@ -98,30 +98,30 @@ module _ {A : Type 0} {w : ℕ} {write : A → List ℕ} {read : List ℕ → �
       → tabulate n (λ i. read l (body at + w * i)) ≡ xs
   list_inside xs d n e f s =
       let size : w * length xs ≡ w * n = ap (λ (k : ℕ). w * k) e in
-      sym (tabulate-is n (λ i. read l (body at + w * i)) d xs e
-      (λ i h. sym (listed-reads c xs d l (body at) (λ j k b p. s.inside j k (omega arith) p) i (omega arith) (f i h))))
+      sym (tabulate_is n (λ i. read l (body at + w * i)) d xs e
+      (λ i h. sym (listed_reads c xs d l (body at) (λ j k b p. s.inside j k (omega arith) p) i (omega arith) (f i h))))
 
 -- ---- where the first three fields of a film stand in a file, the numbers in the file are the film's
 
 pub record Opened (rows columns ceiling : ℕ) (weights l : List ℕ) : Type 0 where
   pub rows_are : byte_at l rows_offset ≡ rows
   pub columns_are : byte_at l columns_offset ≡ columns
-  pub ceiling-is : long_at l ceiling_offset ≡ ceiling
+  pub ceiling_is : long_at l ceiling_offset ≡ ceiling
   pub weights_are : tabulate (cells_in l) (λ i. word_at l (weights_offset + 2 * i)) ≡ weights
 
-pub opening-reads : (rows columns ceiling : ℕ) (weights l : List ℕ)
+pub opening_reads : (rows columns ceiling : ℕ) (weights l : List ℕ)
     → length weights ≡ cells rows columns → ceiling < 4294967296 → ((i : ℕ) → i < cells rows columns → get_or weights i 0 < 65536)
     → Stands l 0 1 2 (rows ∷ columns ∷ [])
     → Stands l (fields_end (shape_field ∷ []) 0) 2 4 (long ceiling)
     → Stands l (fields_end (shape_field ∷ ceiling_field ∷ []) 0) 3 (2 * cells rows columns) (weight_bytes weights)
     → Opened rows columns ceiling weights l
-opening-reads rows columns ceiling weights l len low words shape top list =
+opening_reads rows columns ceiling weights l len low words shape top list =
     let r : byte_at l rows_offset ≡ rows = shape.inside 0 3 (omega arith) refl in
     let c : byte_at l columns_offset ≡ columns = shape.inside 1 4 (omega arith) refl in
     record {
       rows_are = r;
       columns_are = c;
-      ceiling-is = number_inside long_code ceiling low top;
+      ceiling_is = number_inside long_code ceiling low top;
       weights_are = rw (r, c) (list_inside word_code weights 0 (cells rows columns) len words list);
     }
 
@@ -137,5 +137,5 @@ placed_length {weights} {bytes} {out} P =
       length-append P.front (field 3 0 []),
       length-append (P.front ++ full) P.back,
       length-append P.front full,
-      listed-length word_code weights,
+      listed_length word_code weights,
     )

@@ -1,7 +1,7 @@
 -- Laws of optional fields (document 02, W2), for every list of them and every choice of those that are there, each by induction over the list.
 --
---   The bodies that stand for the fields that a file has are its parts (`parts-bodies`): so what was read is written back.
---   Where tags rise, the fields that are written are those that are found (`parts-written`): so what is written reads back.
+--   The bodies that stand for the fields that a file has are its parts (`parts_bodies`): so what was read is written back.
+--   Where tags rise, the fields that are written are those that are found (`parts_written`): so what is written reads back.
 --   What is found depends on no byte beyond the last field that may be there (`parts_same`).
 use mathlib.Core.Path.{◌≡◌, refl, sym, ap, ap₂, ◌∙◌}
 use mathlib.Core.Bool.{Bool, true, false, cond}
@@ -15,7 +15,7 @@ use lib.ListN.{length, get_or-eq_default}
 use Rattle.model.specs.Lists.{tabulate}
 use Rattle.model.specs.Bytes.{byte_at}
 use Rattle.model.specs.Fields.{Field, body, behind, fields_end, Optional, absent, given, past, parts_in, present, givens}
-use Rattle.model.proofs.Lists.{tabulate-is, tabulate-same}
+use Rattle.model.proofs.Lists.{tabulate_is, tabulate_same}
 use Rattle.model.proofs.Fields.{header, bodies_in, Fit, Stands, Laid, Agree, AllLocal, end_above}
 
 -- ---- a list of fields and one behind it
@@ -30,9 +30,9 @@ bodies_append (f ∷ fs) gs l at = ap (λ bs. tabulate f.size (λ j. byte_at l (
 abbrev pub part_if : Bool → Field → List ℕ → ℕ → Optional (List ℕ)
 part_if there f l at = cond there (given (tabulate f.size (λ j. byte_at l (body at + j)))) absent
 
-pub parts-bodies : (fs : List Field) (l : List ℕ) (at : ℕ) → bodies_in (present fs (parts_in fs l at)) l at ≡ givens (parts_in fs l at)
-parts-bodies [] l at = refl
-parts-bodies (f ∷ fs) l at = go (eqb (byte_at l at) f.tag) (parts-bodies fs l (behind at f.size)) (parts-bodies fs l at)
+pub parts_bodies : (fs : List Field) (l : List ℕ) (at : ℕ) → bodies_in (present fs (parts_in fs l at)) l at ≡ givens (parts_in fs l at)
+parts_bodies [] l at = refl
+parts_bodies (f ∷ fs) l at = go (eqb (byte_at l at) f.tag) (parts_bodies fs l (behind at f.size)) (parts_bodies fs l at)
   where
     go : (b : Bool) → bodies_in (present fs (parts_in fs l (behind at f.size))) l (behind at f.size) ≡ givens (parts_in fs l (behind at f.size))
         → bodies_in (present fs (parts_in fs l at)) l at ≡ givens (parts_in fs l at)
@@ -78,24 +78,24 @@ other_tag (f ∷ fs) (given b ∷ ps) l at low tag r e w some h =
     ne_eqb (byte_at l at) tag (λ same. omega (arith, here, same, r.0))
 
 -- What is written is found.
-pub parts-written : (fs : List Field) (ps : List (Optional (List ℕ))) (l : List ℕ) (at low : ℕ) → Rising low fs → Each fs ps → Written fs ps l at
+pub parts_written : (fs : List Field) (ps : List (Optional (List ℕ))) (l : List ℕ) (at low : ℕ) → Rising low fs → Each fs ps → Written fs ps l at
     → parts_in fs l at ≡ ps
-parts-written [] [] l at low r e w = refl
-parts-written [] (p ∷ ps) l at low r e w = absurd (omega (arith, e))
-parts-written (f ∷ fs) [] l at low r e w = absurd (omega (arith, e))
-parts-written (f ∷ fs) (absent ∷ ps) l at low r e w =
+parts_written [] [] l at low r e w = refl
+parts_written [] (p ∷ ps) l at low r e w = absurd (omega (arith, e))
+parts_written (f ∷ fs) [] l at low r e w = absurd (omega (arith, e))
+parts_written (f ∷ fs) (absent ∷ ps) l at low r e w =
     let rest : Written fs ps l at = record { fit = w.fit; laid = w.laid; ends = w.ends } in
     let none : eqb (byte_at l at) f.tag ≡ false = other_tag fs ps l at f.tag f.tag r.1 e rest (omega (arith, r.0)) (le_refl f.tag) in
     ap (λ b. part_if b f l at ∷ parts_in fs l (past (part_if b f l at) f at)) none
-    ∙ ap (λ qs. absent ∷ qs) (parts-written fs ps l at f.tag r.1 e rest)
-parts-written (f ∷ fs) (given b ∷ ps) l at low r e w =
+    ∙ ap (λ qs. absent ∷ qs) (parts_written fs ps l at f.tag r.1 e rest)
+parts_written (f ∷ fs) (given b ∷ ps) l at low r e w =
     let S : Stands l at f.tag f.size b = w.laid.0 in
     let there : eqb (byte_at l at) f.tag ≡ true = eq-eqb _ _ (header l at f.tag f.size S.passes).tag_is in
     let bytes : tabulate f.size (λ j. byte_at l (body at + j)) ≡ b =
-    sym (tabulate-is f.size (λ j. byte_at l (body at + j)) 0 b w.fit.0 (λ j h. sym (S.inside j (body at + j) h refl))) in
+    sym (tabulate_is f.size (λ j. byte_at l (body at + j)) 0 b w.fit.0 (λ j h. sym (S.inside j (body at + j) h refl))) in
     ap (λ t. part_if t f l at ∷ parts_in fs l (past (part_if t f l at) f at)) there
     ∙ ap₂ (λ x qs. given x ∷ qs) bytes
-    (parts-written fs ps l (behind at f.size) f.tag r.1 e (record { fit = w.fit.1; laid = w.laid.1; ends = w.ends }))
+    (parts_written fs ps l (behind at f.size) f.tag r.1 e (record { fit = w.fit.1; laid = w.laid.1; ends = w.ends }))
 
 -- ---- how far a file is looked at
 
@@ -111,11 +111,11 @@ present_end (f ∷ fs) (absent ∷ ps) at = le_trans (present_end fs ps at) (end
 present_end (f ∷ fs) (given b ∷ ps) at = present_end fs ps (behind at f.size)
 
 -- their tests look at their bodies alone, if all do
-pub present-local : (fs : List Field) (ps : List (Optional (List ℕ))) → AllLocal fs → AllLocal (present fs ps)
-present-local [] ps a = tt
-present-local (f ∷ fs) [] a = tt
-present-local (f ∷ fs) (absent ∷ ps) a = present-local fs ps a.1
-present-local (f ∷ fs) (given b ∷ ps) a = (a.0, present-local fs ps a.1)
+pub present_local : (fs : List Field) (ps : List (Optional (List ℕ))) → AllLocal fs → AllLocal (present fs ps)
+present_local [] ps a = tt
+present_local (f ∷ fs) [] a = tt
+present_local (f ∷ fs) (absent ∷ ps) a = present_local fs ps a.1
+present_local (f ∷ fs) (given b ∷ ps) a = (a.0, present_local fs ps a.1)
 
 pub append_local : (fs gs : List Field) → AllLocal fs → AllLocal gs → AllLocal (fs ++ gs)
 append_local [] gs a b = b
@@ -128,7 +128,7 @@ module _ {n : ℕ} {l m : List ℕ} (A : Agree n l m) where
   parts_same (f ∷ fs) at h =
       let low = end_above fs (behind at f.size) in
       let bytes : tabulate f.size (λ j. byte_at l (body at + j)) ≡ tabulate f.size (λ j. byte_at m (body at + j)) =
-      tabulate-same 0 f.size (λ j. byte_at l (body at + j)) (λ j. byte_at m (body at + j)) (λ j b. A.same (body at + j) (omega arith)) in
+      tabulate_same 0 f.size (λ j. byte_at l (body at + j)) (λ j. byte_at m (body at + j)) (λ j b. A.same (body at + j) (omega arith)) in
       (λ k. go_part (A.same at (omega arith) k) (bytes k))
       ∙ go (eqb (byte_at m at) f.tag) (parts_same fs (behind at f.size) h)
       (parts_same fs at (omega (arith, end_later fs at (behind at f.size) (omega arith))))

@@ -24,23 +24,23 @@ or-false false true c h = (refl, inr h)
 or-false false false c h = (refl, inl refl)
 
 module _ (top edge pressure column : ℕ) where
-  outranks-true : outranks top edge pressure column ≡ true → (top ≤ pressure) × (pressure ≤ top → edge < column)
-  outranks-true h =
+  outranks_true : outranks top edge pressure column ≡ true → (top ≤ pressure) × (pressure ≤ top → edge < column)
+  outranks_true h =
       ⊎_elim
       (λ a. let g : top < pressure = ltb-true _ _ a in (omega arith, λ l. absurd (omega arith)))
       (λ b. let e : top ≡ pressure = eqb-true _ _ b.0 in (omega arith, λ l. ltb-true _ _ b.1))
       (or_true _ _ _ h)
 
-  outranks-false : outranks top edge pressure column ≡ false → (pressure ≤ top) × (top ≤ pressure → column ≤ edge)
-  outranks-false h =
+  outranks_false : outranks top edge pressure column ≡ false → (pressure ≤ top) × (top ≤ pressure → column ≤ edge)
+  outranks_false h =
       let o = or-false _ _ _ h in
       let g : pressure ≤ top = ltb-false _ _ o.0 in
       (g, λ l. ⊎_elim (λ b. absurd (eqb-false _ _ b (le_antisymm l g))) (λ c. ltb-false _ _ c) o.1)
 
 -- a later cell is in no lower row
-row-later : (columns : ℕ) {i j : ℕ} → i ≤ j → i / columns ≤ j / columns
-row-later zero {i} {j} h = omega (arith, div-zero i)
-row-later (suc c) {i} {j} h = (le-div_iff_mul-le (zero-lt-suc c)).1 (le_trans (div-mul-le_self i (suc c)) h)
+row_later : (columns : ℕ) {i j : ℕ} → i ≤ j → i / columns ≤ j / columns
+row_later zero {i} {j} h = omega (arith, div-zero i)
+row_later (suc c) {i} {j} h = (le-div_iff_mul-le (zero-lt-suc c)).1 (le_trans (div-mul-le_self i (suc c)) h)
 
 module _ (columns : ℕ) (p : List ℕ) where
   -- one cell more
@@ -49,7 +49,7 @@ module _ (columns : ℕ) (p : List ℕ) where
     where
       go : (b : Bool) → outranks (get_or p best 0) (best % columns) (get_or p n 0) (n % columns) ≡ b → Peak columns p (suc n) (cond b n best)
       go true e =
-          let t = outranks-true (get_or p best 0) (best % columns) (get_or p n 0) (n % columns) e in
+          let t = outranks_true (get_or p best 0) (best % columns) (get_or p n 0) (n % columns) e in
           -- a cell before it with its pressure stands in a column before its own
           let nearer : (i : ℕ) → i < n → get_or p i 0 ≡ get_or p n 0 → i % columns < n % columns =
           λ i a s. omega (arith, P.trailing i a (omega (arith, P.greatest i a, t.0)), t.1 (omega (arith, P.greatest i a))) in
@@ -60,10 +60,10 @@ module _ (columns : ℕ) (p : List ℕ) where
               | no a ↦ let z : i ≡ n = omega arith in rw z (le_refl (get_or p n 0))
             ];
             trailing = λ i l s. elim (dec_lt i n) [ yes a ↦ omega (arith, nearer i a s) | no a ↦ let z : i ≡ n = omega arith in rw z (le_refl (n % columns)) ];
-            lowest = λ i l s c. elim (dec_lt i n) [ yes a ↦ absurd (omega (arith, nearer i a s)) | no a ↦ row-later columns (omega arith) ];
+            lowest = λ i l s c. elim (dec_lt i n) [ yes a ↦ absurd (omega (arith, nearer i a s)) | no a ↦ row_later columns (omega arith) ];
           }
       go false e =
-          let k = outranks-false (get_or p best 0) (best % columns) (get_or p n 0) (n % columns) e in
+          let k = outranks_false (get_or p best 0) (best % columns) (get_or p n 0) (n % columns) e in
           record {
             inside = omega (arith, P.inside);
             greatest = λ i l. elim (dec_lt i n) [ yes a ↦ P.greatest i a | no a ↦ let z : i ≡ n = omega arith in rw z k.0 ];
@@ -71,7 +71,7 @@ module _ (columns : ℕ) (p : List ℕ) where
               | yes a ↦ P.trailing i a s
               | no a ↦ let z : i ≡ n = omega arith in rw z (k.1 (le_of_eq (sym s ∙ ap (λ (j : ℕ). get_or p j 0) z)))
             ];
-            lowest = λ i l s c. elim (dec_lt i n) [ yes a ↦ P.lowest i a s c | no a ↦ row-later columns (omega (arith, P.inside)) ];
+            lowest = λ i l s c. elim (dec_lt i n) [ yes a ↦ P.lowest i a s c | no a ↦ row_later columns (omega (arith, P.inside)) ];
           }
 
   -- of one cell
@@ -81,7 +81,7 @@ module _ (columns : ℕ) (p : List ℕ) where
         inside = omega arith;
         greatest = λ i h. let z : i ≡ 0 = omega arith in rw z (le_refl (get_or p 0 0));
         trailing = λ i h s. let z : i ≡ 0 = omega arith in rw z (le_refl (0 % columns));
-        lowest = λ i h s c. row-later columns (omega arith);
+        lowest = λ i h s c. row_later columns (omega arith);
       }
 
   pub peak_is : (n : ℕ) → 0 < n → Peak columns p n (peak_of columns p n)
@@ -103,9 +103,9 @@ module _ (columns : ℕ) (p : List ℕ) where
       omega (arith, div-add-mod a columns, div-add-mod b columns, ap (λ (k : ℕ). columns * k) r)
 
 -- a film at zero pressure prints its last column in row 1
-pub peak_at-zero : (f : Film) (p : List ℕ) → 0 < f.rows → 0 < f.columns → ((i : ℕ) → i < size_of f → get_or p i 0 ≡ 0)
+pub peak_at_zero : (f : Film) (p : List ℕ) → 0 < f.rows → 0 < f.columns → ((i : ℕ) → i < size_of f → get_or p i 0 ≡ 0)
     → peak_line f p ≡ line (peak_word ␣ (decimal 1 ␣ decimal f.columns) ␣ decimal 0)
-peak_at-zero f p r c zeros =
+peak_at_zero f p r c zeros =
     let top = peak_cell f p in
     let P = peak_is f.columns p (size_of f) (mul-pos r c) in
     let last = f.columns - 1 in

@@ -29,69 +29,69 @@ use Rattle.model.specs.CoefficientFile.{numbers_field, coefficient_fields, diago
 use Rattle.model.specs.EitherFile.{tagged06, formed_by, read_either}
 use Rattle.model.specs.Result.{answer_by}
 use Rattle.model.specs.Report.{report_by, report_of, enough}
-use Rattle.model.proofs.Lists.{tabulate-same}
-use Rattle.model.proofs.Checks.{or_else_parts, fail_first-same}
-use Rattle.model.proofs.Codes.{Code, word_code, long_code, signed-long_code, signed-quad_code}
-use Rattle.model.proofs.Fields.{Agree, Local, AllLocal, field-same, walk_same}
-use Rattle.model.proofs.Optional.{parts_same, present_end, present-local, append_local}
-use Rattle.model.proofs.Opening.{Shaped, shape_passes, carried-low}
-use Rattle.model.proofs.EitherFile.{shape-refused}
+use Rattle.model.proofs.Lists.{tabulate_same}
+use Rattle.model.proofs.Checks.{or_else_parts, fail_first_same}
+use Rattle.model.proofs.Codes.{Code, word_code, long_code, signed_long_code, signed_quad_code}
+use Rattle.model.proofs.Fields.{Agree, Local, AllLocal, field_same, walk_same}
+use Rattle.model.proofs.Optional.{parts_same, present_end, present_local, append_local}
+use Rattle.model.proofs.Opening.{Shaped, shape_passes, carried_low}
+use Rattle.model.proofs.EitherFile.{shape_refused}
 
 -- ---- a film's fields look at their bodies alone
 
-shape-local : Local shape_field
-shape-local =
+shape_local : Local shape_field
+shape_local =
     record { alike = λ l m at same. ap₂ (λ r c. shape_check r at c (at + 1)) (same at (omega arith) (omega arith)) (same (at + 1) (omega arith) (omega arith)) }
 
-ceiling-local : Local ceiling_field
-ceiling-local =
+ceiling_local : Local ceiling_field
+ceiling_local =
     record { alike = λ l m at same. ap (λ c. ceiling_check c at) (long_code.alike l m at same) }
 
-weights-local : (n : ℕ) → Local (weights_field n)
-weights-local n =
+weights_local : (n : ℕ) → Local (weights_field n)
+weights_local n =
     record {
       alike = λ l m at same.
-          fail_first-same _ _ n 6 (λ i. at + 2 * i)
+          fail_first_same _ _ n 6 (λ i. at + 2 * i)
           (λ i h. ap (λ w. eqb w 0) (word_code.alike l m (at + 2 * i) (λ k g b. same k (omega arith) (omega arith))));
     }
 
-thicknesses-local : (t : ℕ) → Local (thicknesses_field t)
-thicknesses-local t =
+thicknesses_local : (t : ℕ) → Local (thicknesses_field t)
+thicknesses_local t =
     record {
       alike = λ l m at same.
-          fail_first-same _ _ t 7 (λ j. at + j)
+          fail_first_same _ _ t 7 (λ j. at + j)
           (λ j h. ap (λ x. outside x 1 thickness_limit) (same (at + j) (omega arith) (omega arith)));
     }
 
-wedge-local : Local wedge_field
-wedge-local =
+wedge_local : Local wedge_field
+wedge_local =
     record { alike = λ l m at same. ap (λ w. wedge_check (signed_of w) at) (long_code.alike l m at same) }
 
-numbers-local : (tag width n : ℕ) → Local (numbers_field tag width n)
-numbers-local tag width n = record { alike = λ l m at same. refl }
+numbers_local : (tag width n : ℕ) → Local (numbers_field tag width n)
+numbers_local tag width n = record { alike = λ l m at same. refl }
 
-steps-local : Local steps_field
-steps-local =
+steps_local : Local steps_field
+steps_local =
     record {
       alike = λ l m at same.
           ap₂ (λ along across. factors_from (record { along = along; across = across }) at) (same at (omega arith) (omega arith)) (same (at + 1) (omega arith) (omega arith));
     }
 
-gauged-local : (n t : ℕ) → AllLocal (gauged n t)
-gauged-local n t = (shape-local, (ceiling-local, (weights-local n, (thicknesses-local t, (wedge-local, tt)))))
+gauged_local : (n t : ℕ) → AllLocal (gauged n t)
+gauged_local n t = (shape_local, (ceiling_local, (weights_local n, (thicknesses_local t, (wedge_local, tt)))))
 
-coefficients-local : (w n : ℕ) → AllLocal (coefficient_fields w n)
-coefficients-local w n = (
-  shape-local,
-  (ceiling-local, (weights-local w, (numbers-local 6 4 n, (numbers-local 7 4 n, (numbers-local 8 4 n, (numbers-local 9 8 n, tt)))))),
+coefficients_local : (w n : ℕ) → AllLocal (coefficient_fields w n)
+coefficients_local w n = (
+  shape_local,
+  (ceiling_local, (weights_local w, (numbers_local 6 4 n, (numbers_local 7 4 n, (numbers_local 8 4 n, (numbers_local 9 8 n, tt)))))),
 )
 
 -- films within the limits of their shape end before that
-few-cells : {rows columns : ℕ} → Shaped rows columns → cells rows columns ≤ 1024
-few-cells s = let count = mul-le-mul s.rows-low s.columns-low in omega arith
+few_cells : {rows columns : ℕ} → Shaped rows columns → cells rows columns ≤ 1024
+few_cells s = let count = mul-le-mul s.rows_low s.columns_low in omega arith
 
 gauged_near : {rows columns : ℕ} (w : ℕ) → w ≤ cells rows columns → Shaped rows columns → fields_end (gauged w (ringed rows columns) ++ gauged_optional) 0 < enough
-gauged_near w h s = let few = few-cells s in omega arith
+gauged_near w h s = let few = few_cells s in omega arith
 
 -- ---- two files that agree so far
 
@@ -109,15 +109,15 @@ module _ (l m : List ℕ) (A : Agree enough l m) where
   rows_same : byte_at l rows_offset ≡ byte_at m rows_offset
   rows_same = A.same rows_offset (omega arith)
 
-  columns-same : byte_at l columns_offset ≡ byte_at m columns_offset
-  columns-same = A.same columns_offset (omega arith)
+  columns_same : byte_at l columns_offset ≡ byte_at m columns_offset
+  columns_same = A.same columns_offset (omega arith)
 
   -- .. so is whether the weights are there, ..
-  none-same : weightless l ≡ weightless m
-  none-same = ap₂ (λ (a b : ℕ). eqb (a * 256 + b) 0) (A.same 13 (omega arith)) (A.same 14 (omega arith))
+  none_same : weightless l ≡ weightless m
+  none_same = ap₂ (λ (a b : ℕ). eqb (a * 256 + b) 0) (A.same 13 (omega arith)) (A.same 14 (omega arith))
 
   carried_same : carried_in l ≡ carried_in m
-  carried_same = λ k. cond (none-same k) 0 (cells (rows_same k) (columns-same k))
+  carried_same = λ k. cond (none_same k) 0 (cells (rows_same k) (columns_same k))
 
   -- .. so is a number that ends within those bytes, and a list of numbers that does, ..
   module _ {T : Type 0} {w : ℕ} {write : T → List ℕ} {read : List ℕ → ℕ → T} {Fits : T → Type 0} (c : Code w write read Fits) where
@@ -126,11 +126,11 @@ module _ (l m : List ℕ) (A : Agree enough l m) where
 
     list_same : (d : T) (from n : ℕ) → from + w * n ≤ enough → tabulate n (λ i. read l (from + w * i)) ≡ tabulate n (λ i. read m (from + w * i))
     list_same d from n h =
-        tabulate-same d n _ _ (λ i b. number_same (from + w * i) (omega (arith, mul-le-mul_left w b, mul-suc w i)))
+        tabulate_same d n _ _ (λ i b. number_same (from + w * i) (omega (arith, mul-le-mul_left w b, mul-suc w i)))
 
   -- .. and so are all tests of fields that do
-  fields-same : (fs : List Field) → AllLocal fs → fields_end fs 0 < enough → fields_check fs l ≡ fields_check fs m
-  fields-same fs local h =
+  fields_same : (fs : List Field) → AllLocal fs → fields_end fs 0 < enough → fields_check fs l ≡ fields_check fs m
+  fields_same fs local h =
       let behind : unexpected_at l (fields_end fs 0) ≡ unexpected_at m (fields_end fs 0) =
       rw (lt-ltb (fields_end fs 0) (length l) (omega (arith, A.left)), lt-ltb (fields_end fs 0) (length m) (omega (arith, A.right))) in
       ap₂ ◌or_else◌ (walk_same A fs 0 local (omega arith)) behind
@@ -145,34 +145,34 @@ module _ (l m : List ℕ) (A : Agree enough l m) where
     t = ring_in m
 
     low : n ≤ 1024
-    low = few-cells s
+    low = few_cells s
 
     -- as many weights as the file has
     abbrev w : ℕ
     w = carried_in m
 
     few : w ≤ n
-    few = carried-low m n
+    few = carried_low m n
 
-    weights-same : tabulate (carried_in l) (λ i. word_at l (weights_offset + 2 * i)) ≡ tabulate w (λ i. word_at m (weights_offset + 2 * i))
-    weights-same = rw (carried_same) (list_same word_code 0 weights_offset w (omega (arith, low, few)))
+    weights_same : tabulate (carried_in l) (λ i. word_at l (weights_offset + 2 * i)) ≡ tabulate w (λ i. word_at m (weights_offset + 2 * i))
+    weights_same = rw (carried_same) (list_same word_code 0 weights_offset w (omega (arith, low, few)))
 
     optional_same : gauged_parts l ≡ gauged_parts m
-    optional_same = rw (carried_same, rows_same, columns-same) (parts_same A gauged_optional (end_offset w t) (gauged_near w few s))
+    optional_same = rw (carried_same, rows_same, columns_same) (parts_same A gauged_optional (end_offset w t) (gauged_near w few s))
 
-    numbers-same : numbers_in l ≡ numbers_in m
-    numbers-same =
+    numbers_same : numbers_in l ≡ numbers_in m
+    numbers_same =
         let end = gauged_near w few s in
         let thicknesses : (numbers_in l).thicknesses ≡ (numbers_in m).thicknesses =
-        rw (carried_same, rows_same, columns-same) (tabulate-same 0 t _ _ (λ j b. A.same (thicknesses_offset w + j) (omega (arith, end)))) in
+        rw (carried_same, rows_same, columns_same) (tabulate_same 0 t _ _ (λ j b. A.same (thicknesses_offset w + j) (omega (arith, end)))) in
         let wedge : (numbers_in l).wedge ≡ (numbers_in m).wedge =
-        rw (carried_same, rows_same, columns-same) (number_same signed-long_code (wedge_offset w t) (omega (arith, end))) in
+        rw (carried_same, rows_same, columns_same) (number_same signed_long_code (wedge_offset w t) (omega (arith, end))) in
         let steps : (numbers_in l).steps ≡ (numbers_in m).steps = ap (λ ps. steps_of (get_or ps 0 absent)) optional_same in
         λ k. record {
           rows = rows_same k;
-          columns = columns-same k;
+          columns = columns_same k;
           ceiling = number_same long_code ceiling_offset (omega arith) k;
-          weights = weights-same k;
+          weights = weights_same k;
           thicknesses = thicknesses k;
           wedge = wedge k;
           steps = steps k;
@@ -180,15 +180,15 @@ module _ (l m : List ℕ) (A : Agree enough l m) where
 
     coefficients_stand : coefficients_in l ≡ coefficients_in m
     coefficients_stand =
-        let diagonals : (coefficients_in l).diagonals ≡ (coefficients_in m).diagonals = rw (carried_same, rows_same, columns-same) (list_same long_code 0 (diagonals_offset w) n (omega (arith, low, few))) in
-        let rights : (coefficients_in l).rights ≡ (coefficients_in m).rights = rw (carried_same, rows_same, columns-same) (list_same long_code 0 (rights_offset w n) n (omega (arith, low, few))) in
-        let ups : (coefficients_in l).ups ≡ (coefficients_in m).ups = rw (carried_same, rows_same, columns-same) (list_same long_code 0 (ups_offset w n) n (omega (arith, low, few))) in
-        let sources : (coefficients_in l).sources ≡ (coefficients_in m).sources = rw (carried_same, rows_same, columns-same) (list_same signed-quad_code (pos 0) (sources_offset w n) n (omega (arith, low, few))) in
+        let diagonals : (coefficients_in l).diagonals ≡ (coefficients_in m).diagonals = rw (carried_same, rows_same, columns_same) (list_same long_code 0 (diagonals_offset w) n (omega (arith, low, few))) in
+        let rights : (coefficients_in l).rights ≡ (coefficients_in m).rights = rw (carried_same, rows_same, columns_same) (list_same long_code 0 (rights_offset w n) n (omega (arith, low, few))) in
+        let ups : (coefficients_in l).ups ≡ (coefficients_in m).ups = rw (carried_same, rows_same, columns_same) (list_same long_code 0 (ups_offset w n) n (omega (arith, low, few))) in
+        let sources : (coefficients_in l).sources ≡ (coefficients_in m).sources = rw (carried_same, rows_same, columns_same) (list_same signed_quad_code (pos 0) (sources_offset w n) n (omega (arith, low, few))) in
         λ k. record {
           rows = rows_same k;
-          columns = columns-same k;
+          columns = columns_same k;
           ceiling = number_same long_code ceiling_offset (omega arith) k;
-          weights = weights-same k;
+          weights = weights_same k;
           diagonals = diagonals k;
           rights = rights k;
           ups = ups k;
@@ -198,46 +198,46 @@ module _ (l m : List ℕ) (A : Agree enough l m) where
     -- so both readers read the two files alike, and the same one is chosen
     local : AllLocal (gauged w t ++ present gauged_optional (gauged_parts m))
     local =
-        append_local (gauged w t) (present gauged_optional (gauged_parts m)) (gauged-local w t)
-        (present-local gauged_optional (gauged_parts m) (steps-local, tt))
+        append_local (gauged w t) (present gauged_optional (gauged_parts m)) (gauged_local w t)
+        (present_local gauged_optional (gauged_parts m) (steps_local, tt))
 
     near : fields_end (gauged w t ++ present gauged_optional (gauged_parts m)) 0 < enough
     near = omega (arith, present_end gauged_optional (gauged_parts m) (end_offset w t), gauged_near w few s)
 
     -- what is found, and whether it is, goes by the numbers that stand in the file
-    gauged-same : read_film l ≡ read_film m
+    gauged_same : read_film l ≡ read_film m
     unfolding file_check
-    gauged-same =
+    gauged_same =
         (λ k. answer_by
-        (fields_check (gauged (carried_same k) (ringed (rows_same k) (columns-same k)) ++ present gauged_optional (optional_same k)) l or_else held_check (none-same k) (formed (numbers-same k)))
-        (weighted_gauge (numbers-same k) (weights_for (none-same k) (formed (numbers-same k)))))
-        ∙ ap (λ c. answer_by (c or_else held_check (weightless m) (formed (numbers_in m))) (gauge_in m)) (fields-same (gauged w t ++ present gauged_optional (gauged_parts m)) local near)
+        (fields_check (gauged (carried_same k) (ringed (rows_same k) (columns_same k)) ++ present gauged_optional (optional_same k)) l or_else held_check (none_same k) (formed (numbers_same k)))
+        (weighted_gauge (numbers_same k) (weights_for (none_same k) (formed (numbers_same k)))))
+        ∙ ap (λ c. answer_by (c or_else held_check (weightless m) (formed (numbers_in m))) (gauge_in m)) (fields_same (gauged w t ++ present gauged_optional (gauged_parts m)) local near)
 
-    coefficients-same : read_coefficients l ≡ read_coefficients m
+    coefficients_same : read_coefficients l ≡ read_coefficients m
     unfolding coefficient_file_check
-    coefficients-same =
+    coefficients_same =
         (λ k. answer_by
-        (fields_check (coefficient_fields (carried_same k) (cells (rows_same k) (columns-same k))) l or_else coefficient_check (coefficients_stand k) or_else held_check (none-same k) (coefficients_stand k))
-        (weighted (coefficients_stand k) (weights_for (none-same k) (coefficients_stand k))))
+        (fields_check (coefficient_fields (carried_same k) (cells (rows_same k) (columns_same k))) l or_else coefficient_check (coefficients_stand k) or_else held_check (none_same k) (coefficients_stand k))
+        (weighted (coefficients_stand k) (weights_for (none_same k) (coefficients_stand k))))
         ∙ ap (λ c. answer_by (c or_else coefficient_check (coefficients_in m) or_else held_check (weightless m) (coefficients_in m)) (film_in m))
-        (fields-same (coefficient_fields w n) (coefficients-local w n) (omega (arith, low, few)))
+        (fields_same (coefficient_fields w n) (coefficients_local w n) (omega (arith, low, few)))
 
     tag_same : tagged06 l ≡ tagged06 m
     tag_same = rw (carried_same) (ap (λ b. eqb b 6) (A.same (fields_end (opening w) 0) (omega (arith, low, few))))
 
     shaped_same : read_either l ≡ read_either m
-    shaped_same = λ k. cond (tag_same k) (coefficients-same k) (formed_by (gauged-same k))
+    shaped_same = λ k. cond (tag_same k) (coefficients_same k) (formed_by (gauged_same k))
 
   -- a shape that is refused is refused alike
   shape_same : field_test shape_field l 0 ≡ field_test shape_field m 0
-  shape_same = ap₂ ◌or_else◌ (field-same A 0 1 2 (omega arith)) (λ k. shape_check (rows_same k) rows_offset (columns-same k) columns_offset)
+  shape_same = ap₂ ◌or_else◌ (field_same A 0 1 2 (omega arith)) (λ k. shape_check (rows_same k) rows_offset (columns_same k) columns_offset)
 
   either_same : read_either l ≡ read_either m
   either_same = go (field_test shape_field m 0) refl
     where
       go : (c : Check) → field_test shape_field m 0 ≡ c → read_either l ≡ read_either m
       go pass e = shaped_same (shape_passes _ _ rows_offset columns_offset (or_else_parts (field_at m 0 1 2) _ e).1)
-      go (fail number place) e = shape-refused l number place (shape_same ∙ e) ∙ sym (shape-refused m number place e)
+      go (fail number place) e = shape_refused l number place (shape_same ∙ e) ∙ sym (shape_refused m number place e)
 
 -- What lies beyond the largest film cannot change what is read: one byte more than the longest accepted file decides it ..
 pub read_prefix : (bytes : List ℕ) → read_either (take enough bytes) ≡ read_either bytes

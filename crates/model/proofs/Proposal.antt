@@ -10,15 +10,15 @@ use lib.Dec.{leb, ltb}
 use lib.ListN.{length, get_or, get_or-eq_default}
 use Rattle.monotone.specs.Field.{◌⊑◌}
 use Rattle.monotone.specs.Rule.{Bounded, Rises}
-use Rattle.monotone.proofs.Order.{⊑-cells, rises-refl}
+use Rattle.monotone.proofs.Order.{⊑-cells, rises_refl}
 use Rattle.model.specs.Lists.{all_below}
 use Rattle.model.specs.Integers.{at_most_zero}
 use Rattle.model.specs.Film.{Film, size_of, weight_at, slack, rule}
 use Rattle.model.specs.Proposal.{raised_at, raised_by, rises, rise_count, within_ceiling, tight, accepts, decided, propose}
-use Rattle.model.proofs.Lists.{tabulate-length, tabulate-at, all_at}
-use Rattle.model.proofs.Film.{bounded-cells, rule-rises}
+use Rattle.model.proofs.Lists.{tabulate_length, tabulate_at, all_at}
+use Rattle.model.proofs.Film.{bounded_cells, rule_rises}
 use Rattle.model.specs.Accepted.{Accepted}
-use Rattle.model.proofs.Checks.{and_parts, accepted-dominant}
+use Rattle.model.proofs.Checks.{and_parts, accepted_dominant}
 
 -- a test of the n cells from `start` on, in one of them
 row_test : (test : ℕ → Bool) (start n : ℕ) → all_below (λ j. test (start + j)) n ≡ true
@@ -50,16 +50,16 @@ module _ (f : Film) (start : ℕ) (p q : List ℕ) (L : Lifted f start p q) (e :
       rw (lt-ltb _ _ h) at
       (row_test (λ j. not (rises p q j) || at_most_zero (slack f q j)) start f.columns tests.1 i (L.row i b h))
 
-  accepted-rises : Accepted f → Bounded (rule f) p → Rises (rule f) p q
-  accepted-rises A B = rule-rises f (weight_at f) (accepted-dominant A) (bounded-cells L.len low) L.up rise_tight
+  accepted_rises : Accepted f → Bounded (rule f) p → Rises (rule f) p q
+  accepted_rises A B = rule_rises f (weight_at f) (accepted_dominant A) (bounded_cells L.len low) L.up rise_tight
     where
       low : (i : ℕ) → i < size_of f → get_or q i 0 ≤ f.ceiling
       low i b = elim (dec_lt (get_or p i 0) (get_or q i 0)) [ yes h ↦ rise_low i b h | no h ↦ omega (arith, B.low i) ]
 
 module _ (f : Film) (start : ℕ) (proposal p : List ℕ) where
   -- the larger of pressure and proposal is above the pressure in the row only
-  raised-row : (i : ℕ) → get_or p i 0 < raised_at start proposal p i → (start ≤ i) × (i < start + length proposal)
-  raised-row i = go (leb start i) refl
+  raised_row : (i : ℕ) → get_or p i 0 < raised_at start proposal p i → (start ≤ i) × (i < start + length proposal)
+  raised_row i = go (leb start i) refl
     where
       go : (t : Bool) → leb start i ≡ t → get_or p i 0 < max (get_or p i 0) (cond t (get_or proposal (i - start) 0) 0)
           → (start ≤ i) × (i < start + length proposal)
@@ -75,19 +75,19 @@ module _ (f : Film) (start : ℕ) (proposal p : List ℕ) where
   unfolding raised_by
   raised_lifted l n =
       record {
-        len = tabulate-length (size_of f) (raised_at start proposal p);
-        up = ⊑-cells (size_of f) n (λ i b. rw (tabulate-at (size_of f) (raised_at start proposal p) 0 i b) (omega arith));
+        len = tabulate_length (size_of f) (raised_at start proposal p);
+        up = ⊑-cells (size_of f) n (λ i b. rw (tabulate_at (size_of f) (raised_at start proposal p) 0 i b) (omega arith));
         row = λ i b h.
-            rw (← l) (raised-row i (rw (tabulate-at (size_of f) (raised_at start proposal p) 0 i b) at h));
+            rw (← l) (raised_row i (rw (tabulate_at (size_of f) (raised_at start proposal p) 0 i b) at h));
       }
 
   -- any proposal of C numbers, for the cells from `start` on
-  pub propose-rises : Accepted f → Bounded (rule f) p → length proposal ≡ f.columns
+  pub propose_rises : Accepted f → Bounded (rule f) p → length proposal ≡ f.columns
       → Rises (rule f) p (propose f start proposal p).lent
   unfolding propose
-  propose-rises A B l = go (accepts f start p (raised_by f start proposal p)) refl
+  propose_rises A B l = go (accepts f start p (raised_by f start proposal p)) refl
     where
       go : (t : Bool) → accepts f start p (raised_by f start proposal p) ≡ t
           → Rises (rule f) p (decided t f start p (raised_by f start proposal p)).lent
-      go true e = accepted-rises f start p _ (raised_lifted l B.len) e A B
-      go false e = rises-refl B
+      go true e = accepted_rises f start p _ (raised_lifted l B.len) e A B
+      go false e = rises_refl B

@@ -17,7 +17,7 @@ use Rattle.monotone.specs.Links.{pull}
 use Rattle.monotone.specs.Rule as theory
 use Rattle.monotone.specs.Linear.{Positive}
 use Rattle.monotone.proofs.Order.{⊑_refl, raise_under}
-use Rattle.monotone.proofs.Compare.{pos-right}
+use Rattle.monotone.proofs.Compare.{pos_right}
 use Rattle.model.specs.Integers.{negative}
 use Rattle.model.specs.Gauge.{Gauge}
 use Rattle.model.specs.Film.{Film, size_of, system_of, rule, row_of, column_of, diagonal_at, right_at, up_at, source_at, link_if, beside, across, neighbours, pull_of, slack_of, slack, Least}
@@ -25,8 +25,8 @@ use Rattle.model.specs.Coefficients.{formed}
 use Rattle.model.specs.Reynolds.{reynolds}
 use Rattle.model.specs.Relaxation.{required}
 use Rattle.model.proofs.Sides.{pull_append}
-use Rattle.model.proofs.Film.{required-slack, rule_monotone, feasible_to, feasible-from, least-feasible}
-use Rattle.model.proofs.Reynolds.{reynolds-slack}
+use Rattle.model.proofs.Film.{required_slack, rule_monotone, feasible_to, feasible_from, least_feasible}
+use Rattle.model.proofs.Reynolds.{reynolds_slack}
 
 -- no cell pulls itself, on any side
 own_side : (b : Bool) (j k i v : ℕ) (p : List ℕ) → (b ≡ true → j ≢ i)
@@ -44,27 +44,27 @@ own_pull f p i v some =
     simp pull_append (λ j. left j + right j + (down j + up j))
 
 -- Document 01: "the least whole number, not below 0, that makes its spare at least 0 with the others fixed", of the field itself: ..
-pub required-is-least : (f : Film) (p : List ℕ) (i v : ℕ) → 0 < f.columns → 0 < diagonal_at f i → i < length p
+pub required_is_least : (f : Film) (p : List ℕ) (i v : ℕ) → 0 < f.columns → 0 < diagonal_at f i → i < length p
     → (negative (slack f (set p i v) i) ≡ false) ↔ (required f p i ≤ v)
-required-is-least f p i v some d h =
+required_is_least f p i v some d h =
     let same : slack f (set p i v) i ≡ slack_of (diagonal_at f i) (pull_of f p i) (source_at f i) v =
     λ j. slack_of (diagonal_at f i) (own_pull f p i v some j) (source_at f i) (get_or-set_same p i v 0 h j) in
-    let r = required-slack (diagonal_at f i) (pull_of f p i) (source_at f i) v d in
+    let r = required_slack (diagonal_at f i) (pull_of f p i) (source_at f i) v d in
     (λ e. r.0 (ap negative (sym same) ∙ e), λ l. ap negative same ∙ r.1 l)
 
 -- .. a relaxation finds the least pressure of the cell at which Reynolds' difference form leaves nothing below 0.
-pub required-reynolds : (g : Gauge) (p : List ℕ) (i v : ℕ) → 0 < diagonal_at (formed g) i → i < g.rows * g.columns → i < length p
+pub required_reynolds : (g : Gauge) (p : List ℕ) (i v : ℕ) → 0 < diagonal_at (formed g) i → i < g.rows * g.columns → i < length p
     → (negative (reynolds g (set p i v) (i / g.columns + 1) (i % g.columns + 1)) ≡ false) ↔ (required (formed g) p i ≤ v)
-required-reynolds g p i v d b h =
-    let r = required-is-least (formed g) p i v (pos-right g.rows g.columns b) d h in
-    let e = reynolds-slack g (set p i v) i b in
+required_reynolds g p i v d b h =
+    let r = required_is_least (formed g) p i v (pos_right g.rows g.columns b) d h in
+    let e = reynolds_slack g (set p i v) i b in
     (λ n. r.0 (ap negative e ∙ n), λ l. ap negative (sym e) ∙ r.1 l)
 
 -- In the least field every cell has just what it requires: the complementarity problem's p · w = 0, in whole steps. A cell with more could be
 -- lowered to what it requires, and the field would still be feasible.
-pub least-required : (f : Film) (P : Positive (system_of f)) (q : List ℕ) → Least f q → (i : ℕ) → i < size_of f → get_or q i 0 ≡ required f q i
-least-required f P q L i b =
-    let M = feasible_to f P (least-feasible f P L) in
+pub least_required : (f : Film) (P : Positive (system_of f)) (q : List ℕ) → Least f q → (i : ℕ) → i < size_of f → get_or q i 0 ≡ required f q i
+least_required f P q L i b =
+    let M = feasible_to f P (least_feasible f P L) in
     let v : ℕ = required f q i in
     let z : List ℕ = set q i v in
     let at_i : get_or z i 0 ≡ v = get_or-set_same q i v 0 (omega (arith, L.len)) in
@@ -79,4 +79,4 @@ least-required f P q L i b =
       bounded = record { len = length-set q i v ∙ L.len; low = λ j. le_trans (down.at j) (M.bounded.low j) };
       met = met;
     } in
-    le_antisymm (omega (arith, L.under i b z (feasible-from f P Z), at_i)) (M.met i b)
+    le_antisymm (omega (arith, L.under i b z (feasible_from f P Z), at_i)) (M.met i b)

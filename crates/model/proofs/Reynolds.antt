@@ -15,40 +15,40 @@ use native.Mathlib.Omega.{arith}
 use borrow.Author.Tests.{lt-ltb}
 use lib.IntN.{ℤ, pos, neg_ℤ, sub_ℕ, ◌+ℤ◌, ◌-ℤ◌, ◌*ℤ◌, +ℤ_comm}
 use lib.ListN.{get_or}
-use Rattle.monotone.proofs.Compare.{pos-right}
+use Rattle.monotone.proofs.Compare.{pos_right}
 use Rattle.model.specs.Lists.{tabulate}
 use Rattle.model.specs.Gauge.{Gauge, thickness_at, factors_of}
 use Rattle.model.specs.Film.{diagonal_at, right_at, up_at, slack_of, slack}
 use Rattle.model.specs.Coefficients.{link_of, left_link, right_link, down_link, up_link, formed_diagonal, formed_right, formed_up, formed_source, by_cell, formed}
 use Rattle.model.specs.Reynolds.{pressure_at, doubled, cube, reynolds}
-use Rattle.model.proofs.Integers.{sub-pos, sub-add, sub-sub, sub-neg, mul-sub, sub_same}
-use Rattle.model.proofs.Lists.{tabulate-at}
+use Rattle.model.proofs.Integers.{sub_pos, sub_add, sub_sub, sub_neg, mul_sub, sub_same}
+use Rattle.model.proofs.Lists.{tabulate_at}
 use Rattle.model.proofs.Sides.{index, Inside, index_low, index_row, index_column, left_index, down_index, number_at_lem, Linked, pull_sides}
 
 -- ---- the balance of a cell, over plain numbers
 
 -- a flux: h³ × a difference of pressure
-flux-sub : (k a b : ℕ) → pos k *ℤ (pos a -ℤ pos b) ≡ sub_ℕ (k * a) (k * b)
-flux-sub k a b = ap (λ (z : ℤ). pos k *ℤ z) (sub-pos a b) ∙ mul-sub k a b
+flux_sub : (k a b : ℕ) → pos k *ℤ (pos a -ℤ pos b) ≡ sub_ℕ (k * a) (k * b)
+flux_sub k a b = ap (λ (z : ℤ). pos k *ℤ z) (sub_pos a b) ∙ mul_sub k a b
 
 -- the difference of two fluxes: from pressure a over h³ = k into the cell with pressure x, and on over h³ = m to pressure b
 fluxes_sub : (k m x a b : ℕ) → pos m *ℤ (pos b -ℤ pos x) -ℤ pos k *ℤ (pos x -ℤ pos a) ≡ sub_ℕ (m * b + k * a) (m * x + k * x)
-fluxes_sub k m x a b = ap₂ (λ (y z : ℤ). y -ℤ z) (flux-sub m b x) (flux-sub k x a) ∙ sub-sub (m * b) (m * x) (k * x) (k * a)
+fluxes_sub k m x a b = ap₂ (λ (y z : ℤ). y -ℤ z) (flux_sub m b x) (flux_sub k x a) ∙ sub_sub (m * b) (m * x) (k * x) (k * a)
 
 -- and that k times
 factor_sub : (f k m x a b : ℕ)
     → pos f *ℤ (pos m *ℤ (pos b -ℤ pos x) -ℤ pos k *ℤ (pos x -ℤ pos a)) ≡ sub_ℕ (f * m * b + f * k * a) (f * m * x + f * k * x)
 factor_sub f k m x a b =
     ap (λ (z : ℤ). pos f *ℤ z) (fluxes_sub k m x a b)
-    ∙ mul-sub f (m * b + k * a) (m * x + k * x)
+    ∙ mul_sub f (m * b + k * a) (m * x + k * x)
     ∙ ap₂ sub_ℕ (mul-add f (m * b) (k * a) ∙ ap₂ (λ s t. s + t) (sym (mul_assoc f m b)) (sym (mul_assoc f k a)))
     (mul-add f (m * x) (k * x) ∙ ap₂ (λ s t. s + t) (sym (mul_assoc f m x)) (sym (mul_assoc f k x)))
 
 -- a − b + s ≡ s − (t + v), if t + v is a − b with its sign turned
 turned : (a b c d m n : ℕ) (s : ℤ) {t v : ℤ} → t ≡ sub_ℕ c d → v ≡ sub_ℕ m n → a + (c + m) ≡ d + n + b → pos a -ℤ pos b +ℤ s ≡ s -ℤ (t +ℤ v)
 turned a b c d m n s {t} {v} e f h =
-    let sum : t +ℤ v ≡ sub_ℕ (c + m) (d + n) = ap₂ (λ (y z : ℤ). y +ℤ z) e f ∙ sub-add c d m n in
-    let sign : pos a -ℤ pos b ≡ neg_ℤ (t +ℤ v) = sub-pos a b ∙ sub_same a b (d + n) (c + m) h ∙ sym (ap neg_ℤ sum ∙ sub-neg (c + m) (d + n)) in
+    let sum : t +ℤ v ≡ sub_ℕ (c + m) (d + n) = ap₂ (λ (y z : ℤ). y +ℤ z) e f ∙ sub_add c d m n in
+    let sign : pos a -ℤ pos b ≡ neg_ℤ (t +ℤ v) = sub_pos a b ∙ sub_same a b (d + n) (c + m) h ∙ sym (ap neg_ℤ sum ∙ sub_neg (c + m) (d + n)) in
     ap (λ (z : ℤ). z +ℤ s) sign ∙ +ℤ_comm (neg_ℤ (t +ℤ v)) s
 
 -- the balance in links: that of the left, right, down and up side is l, r, d, u, and the pressure beyond it pl, pr, pd, pu; the cell's own is x, its
@@ -83,7 +83,7 @@ module _ (g : Gauge) where
 
   stored_at : {A : Type 0} (number : ℕ → ℕ → A) (d : A) {r c : ℕ} → Inside (formed g) r c → get_or (stored number) (at r c) d ≡ number r c
   stored_at number d {r} {c} w =
-      tabulate-at _ (by_cell g number) d (at r c) (index_low w)
+      tabulate_at _ (by_cell g number) d (at r c) (index_low w)
       ∙ ap₂ number (ap (λ t. t + 1) (index_row w) ∙ omega arith) (ap (λ t. t + 1) (index_column w) ∙ omega arith)
 
   -- the factors of the two directions
@@ -134,8 +134,8 @@ module _ (g : Gauge) (r c : ℕ) (w : Inside (formed g) r c) where
       ∙ ap₂ (λ l d. l + right_link g r c + d + up_link g r c) (between_comm g (along g) r c r (c - 1)) (between_comm g (across g) r c (r - 1) c)
 
   -- the theorem, by row and column
-  reynolds-cell : (p : List ℕ) → slack (formed g) p (at g r c) ≡ reynolds g p r c
-  reynolds-cell p =
+  reynolds_cell : (p : List ℕ) → slack (formed g) p (at g r c) ≡ reynolds g p r c
+  reynolds_cell p =
       (λ j. slack_of (diagonal_sides j) (pull_sides (formed g) p w linked j) (stored_at g (formed_source g) (pos 0) w j) (number_at_lem g p w refl j))
       ∙ balance (along g) (across g) (cubed g r (c - 1) r c) (cubed g r c r (c + 1)) (cubed g (r - 1) c r c) (cubed g r c (r + 1) c)
       (pressure_at g p r c) (pressure_at g p r (c - 1)) (pressure_at g p r (c + 1)) (pressure_at g p (r - 1) c) (pressure_at g p (r + 1) c)
@@ -151,14 +151,14 @@ module _ (g : Gauge) (r c : ℕ) (w : Inside (formed g) r c) where
         up_is = linked.up_is;
       }
 
-  pub formed-diagonal : diagonal_at (formed g) (at g r c) ≡ formed_diagonal g r c
-  formed-diagonal = stored_at g (formed_diagonal g) 0 w
+  pub formed_diagonal_lem : diagonal_at (formed g) (at g r c) ≡ formed_diagonal g r c
+  formed_diagonal_lem = stored_at g (formed_diagonal g) 0 w
 
 -- the theorem, by index: cell i is in row i / columns + 1 and column i % columns + 1
-pub reynolds-slack : (g : Gauge) (p : List ℕ) (i : ℕ) → i < g.rows * g.columns
+pub reynolds_slack : (g : Gauge) (p : List ℕ) (i : ℕ) → i < g.rows * g.columns
     → slack (formed g) p i ≡ reynolds g p (i / g.columns + 1) (i % g.columns + 1)
-reynolds-slack g p i h =
-    let some : 0 < g.columns = pos-right g.rows g.columns h in
+reynolds_slack g p i h =
+    let some : 0 < g.columns = pos_right g.rows g.columns h in
     let row : i / g.columns < g.rows = (div-lt_iff_lt-mul some).1 h in
     let column : i % g.columns < g.columns = mod-lt i some in
-    ap (slack (formed g) p) (sym (index_at g i)) ∙ reynolds-cell g (i / g.columns + 1) (i % g.columns + 1) (omega arith) p
+    ap (slack (formed g) p) (sym (index_at g i)) ∙ reynolds_cell g (i / g.columns + 1) (i % g.columns + 1) (omega arith) p

@@ -13,20 +13,20 @@ use Rattle.monotone.specs.Ordering.{Permutes}
 use Rattle.monotone.specs.Sweep as theory
 use Rattle.monotone.specs.Outcome.{Says, Outcome}
 use Rattle.monotone.specs.History.{Verdict, Good, sweep_verdict}
-use Rattle.monotone.proofs.Order.{feasible_satisfied, rises-refl, rises_trans}
+use Rattle.monotone.proofs.Order.{feasible_satisfied, rises_refl, rises_trans}
 use Rattle.monotone.proofs.Ordering.{permutes_up, permutes_down, permutes_split}
 use Rattle.monotone.proofs.Sweep.{sweep_outcome, Counted, sweep_counts}
-use Rattle.monotone.proofs.History.{good_sweep, call-visits}
+use Rattle.monotone.proofs.History.{good_sweep, call_visits}
 use Rattle.model.specs.Film.{Film, size_of, rule}
 use Rattle.model.specs.Proposal.{line_start}
 use Rattle.model.specs.Estimate.{estimate, estimate_at}
 use Rattle.model.specs.Run.{even_cell, order_of, ordering, Readied, propose_own, propose_lines, readied, RunAnswer, done, stopped, over, counted_in, counts_of, end_of, run}
 use Rattle.model.specs.declared.Counts.{Counts}
-use Rattle.model.proofs.Lists.{tabulate-length}
+use Rattle.model.proofs.Lists.{tabulate_length}
 use Rattle.model.specs.Accepted.{Accepted}
 use Rattle.model.proofs.Film.{rule_monotone}
-use Rattle.model.proofs.Checks.{accepted-positive}
-use Rattle.model.proofs.Proposal.{propose-rises}
+use Rattle.model.proofs.Checks.{accepted_positive}
+use Rattle.model.proofs.Proposal.{propose_rises}
 
 -- each order names every cell once
 pub order_permutes : (columns n order : ℕ) → Permutes n (order_of columns n order)
@@ -36,9 +36,9 @@ order_permutes columns n (suc zero) = permutes_down n
 order_permutes columns n (suc (suc o)) = permutes_split (even_cell columns) n
 
 -- an estimate has a number for each column
-pub estimate-length : (f : Film) (p : List ℕ) (start : ℕ) → length (estimate f p start) ≡ f.columns
+pub estimate_length : (f : Film) (p : List ℕ) (start : ℕ) → length (estimate f p start) ≡ f.columns
 unfolding estimate
-estimate-length f p start = tabulate-length f.columns (estimate_at f p start)
+estimate_length f p start = tabulate_length f.columns (estimate_at f p start)
 
 -- a run's verdict
 abbrev pub run_verdict : ℕ → ℕ → RunAnswer → Verdict
@@ -69,9 +69,9 @@ module _ (f : Film) (budget order : ℕ) (on : Bool) (p : List ℕ) where
   unfolding run
   run_budget = rw counts_end run_counts.few
 
-  pub run-raises : (counted_in (run f budget order on p).answer).raises ≤ (counted_in (run f budget order on p).answer).visits
+  pub run_raises : (counted_in (run f budget order on p).answer).raises ≤ (counted_in (run f budget order on p).answer).visits
   unfolding run
-  run-raises = rw counts_end run_counts.some
+  run_raises = rw counts_end run_counts.some
 
 -- a good call that is Done holds the least feasible field at or above its start
 pub good_least : {F : Rule} {p q : List ℕ} → Good F p q Verdict.done → LeastAbove F p q
@@ -83,62 +83,62 @@ good_least g =
     }
 
 -- the cell of Over, from what the sweep's answer says
-over-says : (F : Rule) (p : List ℕ) (budget : ℕ) (a : theory.Ending) (s : theory.State) (x c : Counts) (i : ℕ) → Says F p budget a s
+over_says : (F : Rule) (p : List ℕ) (budget : ℕ) (a : theory.Ending) (s : theory.State) (x c : Counts) (i : ℕ) → Says F p budget a s
     → end_of a x ≡ over i c → i < F.size
-over-says F p budget theory.done s x c i told e = let z : ◌≡◌ {A = ℕ} 0 1 = cc in absurd (omega arith)
-over-says F p budget (theory.over j) s x c i told e = let z : j ≡ i = cc in omega (arith, told.0)
-over-says F p budget theory.stopped s x c i told e = let z : ◌≡◌ {A = ℕ} 0 1 = cc in absurd (omega arith)
+over_says F p budget theory.done s x c i told e = let z : ◌≡◌ {A = ℕ} 0 1 = cc in absurd (omega arith)
+over_says F p budget (theory.over j) s x c i told e = let z : j ≡ i = cc in omega (arith, told.0)
+over_says F p budget theory.stopped s x c i told e = let z : ◌≡◌ {A = ℕ} 0 1 = cc in absurd (omega arith)
 
 over_end : {F : Rule} {p : List ℕ} {budget : ℕ} {r : theory.Swept} → Outcome F p budget r → (x c : Counts) (i : ℕ) → end_of r.answer x ≡ over i c
     → i < F.size
-over_end {F} {p} {budget} {r} O x c i e = over-says F p budget r.answer r.last x c i O.says e
+over_end {F} {p} {budget} {r} O x c i e = over_says F p budget r.answer r.last x c i O.says e
 
 module _ (f : Film) (A : Accepted f) where
   -- the program's own proposal for a line, and for lines 1 to n
   own_rises : (line : ℕ) (s : Readied) → Bounded (rule f) s.field
       → Rises (rule f) s.field (propose_own f line s).field
   unfolding propose_own
-  own_rises line s B = propose-rises f _ _ _ A B (estimate-length f s.field (line_start f line))
+  own_rises line s B = propose_rises f _ _ _ A B (estimate_length f s.field (line_start f line))
 
   pub lines_rise : (n : ℕ) (s : Readied) → Bounded (rule f) s.field
       → Rises (rule f) s.field (propose_lines f n s).field
   unfolding propose_lines
-  lines_rise zero s B = rises-refl B
+  lines_rise zero s B = rises_refl B
   lines_rise (suc n) s B = let R = lines_rise n s B in rises_trans R (own_rises (suc n) (propose_lines f n s) R.bounded)
 
   -- the proposals before the first relaxation
-  pub readied-rises : (budget : ℕ) (on : Bool) (p : List ℕ) → Bounded (rule f) p
+  pub readied_rises : (budget : ℕ) (on : Bool) (p : List ℕ) → Bounded (rule f) p
       → Rises (rule f) p (readied f budget on p).field
   unfolding readied
-  readied-rises zero on p B = rises-refl B
-  readied-rises (suc budget) true p B = lines_rise f.rows (record { field = p; accepted = 0 }) B
-  readied-rises (suc budget) false p B = rises-refl B
+  readied_rises zero on p B = rises_refl B
+  readied_rises (suc budget) true p B = lines_rise f.rows (record { field = p; accepted = 0 }) B
+  readied_rises (suc budget) false p B = rises_refl B
 
   module _ (budget order : ℕ) (on : Bool) (p : List ℕ) (B : Bounded (rule f) p) where
     -- the sweep of a run, from the readied field
     run_outcome : Outcome (rule f) (readied f budget on p).field budget
         (theory.sweep (rule f) (ordering f order) budget (theory.begin (readied f budget on p).field))
     run_outcome =
-        sweep_outcome _ _ (rule_monotone f (accepted-positive A)) (order_permutes f.columns (size_of f) order) _ budget
-        (readied-rises budget on p B).bounded
+        sweep_outcome _ _ (rule_monotone f (accepted_positive A)) (order_permutes f.columns (size_of f) order) _ budget
+        (readied_rises budget on p B).bounded
 
     -- it is a good call
     pub run_good : Good (rule f) p (run f budget order on p).lent
         (run_verdict (size_of f) budget (run f budget order on p).answer)
     unfolding run
-    run_good = rw verdict_end (good_sweep _ (readied-rises budget on p B) run_outcome)
+    run_good = rw verdict_end (good_sweep _ (readied_rises budget on p B) run_outcome)
 
     -- relaxations, by how far the total rose
-    pub run-visits : (counted_in (run f budget order on p).answer).visits ≤ size_of f * (1 + (total (run f budget order on p).lent - total p))
+    pub run_visits : (counted_in (run f budget order on p).answer).visits ≤ size_of f * (1 + (total (run f budget order on p).lent - total p))
     unfolding run
-    run-visits = rw counts_end (call-visits (readied-rises budget on p B) run_outcome)
+    run_visits = rw counts_end (call_visits (readied_rises budget on p B) run_outcome)
 
     -- Done holds the least field at or above the start that meets the film
-    pub run-done-least : (c : Counts) → (run f budget order on p).answer ≡ done c
+    pub run_done_least : (c : Counts) → (run f budget order on p).answer ≡ done c
         → LeastAbove (rule f) p (run f budget order on p).lent
-    run-done-least c e = good_least (rw e at run_good)
+    run_done_least c e = good_least (rw e at run_good)
 
     -- Over names a cell of the grid
-    pub run-over : (i : ℕ) (c : Counts) → (run f budget order on p).answer ≡ over i c → i < size_of f
+    pub run_over : (i : ℕ) (c : Counts) → (run f budget order on p).answer ≡ over i c → i < size_of f
     unfolding run
-    run-over i c e = over_end run_outcome _ c i e
+    run_over i c e = over_end run_outcome _ c i e

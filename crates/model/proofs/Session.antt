@@ -31,7 +31,7 @@ form_passes : (g : Gauge) (diagonals rights ups : List ℕ) (sources : List ℤ)
     → length diagonals ≡ g.rows * g.columns → length rights ≡ g.rows * g.columns → length ups ≡ g.rows * g.columns
     → length sources ≡ g.rows * g.columns → form_check g diagonals rights ups sources ≡ pass
 form_passes g diagonals rights ups sources v d r u s =
-    rw (eq-eqb _ _ v.0.weights-len, eq-eqb _ _ v.0.thicknesses-len, eq-eqb _ _ d, eq-eqb _ _ r, eq-eqb _ _ u, eq-eqb _ _ s) v.1
+    rw (eq-eqb _ _ v.0.weights_len, eq-eqb _ _ v.0.thicknesses_len, eq-eqb _ _ d, eq-eqb _ _ r, eq-eqb _ _ u, eq-eqb _ _ s) v.1
 
 module _ (bytes : List ℕ) (B : Bytes bytes) where
   -- ---- a gauged film
@@ -45,17 +45,17 @@ module _ (bytes : List ℕ) (B : Bytes bytes) where
 
     passes : form_check numbers S.diagonals S.rights S.ups S.sources ≡ pass
     passes =
-        form_passes numbers S.diagonals S.rights S.ups S.sources (read_values bytes numbers B numbers_read) S.diagonals-len S.rights-len
-        S.ups-len
-        S.sources-len
+        form_passes numbers S.diagonals S.rights S.ups S.sources (read_values bytes numbers B numbers_read) S.diagonals_len S.rights_len
+        S.ups_len
+        S.sources_len
 
     -- the forming call does not refuse it, ..
     pub session_formed : S.answer ≡ answered tt
-    session_formed = rw passes at S.forms.answer-is
+    session_formed = rw passes at S.forms.answer_is
 
     -- .. and what runs and proposals are lent is the file's film
-    gauged-film : f ≡ formed numbers
-    gauged-film =
+    gauged_film : f ≡ formed numbers
+    gauged_film =
         let d : S.diagonals' ≡ (formed numbers).diagonals = rw passes at S.forms.diagonals_are in
         let r : S.rights' ≡ (formed numbers).rights = rw passes at S.forms.rights_are in
         let u : S.ups' ≡ (formed numbers).ups = rw passes at S.forms.ups_are in
@@ -65,7 +65,7 @@ module _ (bytes : List ℕ) (B : Bytes bytes) where
   -- ---- either kind: what runs and proposals are lent is the file's film, ..
 
   pub session_film : {f : Film} → Session bytes f → read_either bytes ≡ answered f
-  session_film (from_gauge S) = gauged_either bytes (numbers S) (numbers_read S) ∙ ap answered (sym (gauged-film S))
+  session_film (from_gauge S) = gauged_either bytes (numbers S) (numbers_read S) ∙ ap answered (sym (gauged_film S))
   session_film {f} (from_coefficients S) =
       coefficients_either bytes f
       (read_coefficients_lem bytes S.weights S.diagonals S.rights S.ups S.sources S.head S.loads ∙ ap answered (sym S.lent))
@@ -98,7 +98,7 @@ module _ (bytes : List ℕ) (B : Bytes bytes) where
       let weights' : List ℕ = laid_over (gauge_in bytes).weights weights in
       let thicknesses' : List ℕ = laid_over (gauge_in bytes).thicknesses thicknesses in
       let loads : Loads bytes weights thicknesses (answered (load_answer g)) weights' thicknesses' =
-      record { answer-is = rw opened (ap (λ (h : Gauge). answered (load_answer h)) read.1); weights_are = rw opened; thicknesses_are = rw opened } in
+      record { answer_is = rw opened (ap (λ (h : Gauge). answered (load_answer h)) read.1); weights_are = rw opened; thicknesses_are = rw opened } in
       let laid : Gauge = used (head_of g) g.wedge g.steps weights' thicknesses' in
       let reads : read_film bytes ≡ answered laid = read_film_lem bytes weights thicknesses weights' thicknesses' (head_of g) g.wedge g.steps B loads in
       let same : answered g ≡ answered laid = sym e ∙ reads in
@@ -122,15 +122,15 @@ module _ (bytes : List ℕ) (B : Bytes bytes) where
         rights = zeros;
         ups = zeros;
         sources = none;
-        diagonals-len = size;
-        rights-len = size;
-        ups-len = size;
-        sources-len = signed;
+        diagonals_len = size;
+        rights_len = size;
+        ups_len = size;
+        sources_len = signed;
         diagonals' = (formed laid).diagonals;
         rights' = (formed laid).rights;
         ups' = (formed laid).ups;
         sources' = (formed laid).sources;
-        forms = record { answer-is = rw passed; diagonals_are = rw passed; rights_are = rw passed; ups_are = rw passed; sources_are = rw passed };
+        forms = record { answer_is = rw passed; diagonals_are = rw passed; rights_are = rw passed; ups_are = rw passed; sources_are = rw passed };
         lent = ap formed one;
       }
 
@@ -142,7 +142,7 @@ module _ (bytes : List ℕ) (B : Bytes bytes) where
       let none : List ℤ = replicate 1024 (pos 0) in
       let opened : coefficient_load_check bytes zeros zeros zeros zeros none ≡ pass = read.0 in
       let loads : LoadsCoefficients bytes zeros zeros zeros zeros none (answered (film_head g)) (laid_over g.weights zeros) (laid_over g.diagonals zeros) (laid_over g.rights zeros) (laid_over g.ups zeros) (laid_over g.sources none) =
-      record { answer-is = rw opened; weights_are = rw opened; diagonals_are = rw opened; rights_are = rw opened; ups_are = rw opened; sources_are = rw opened } in
+      record { answer_is = rw opened; weights_are = rw opened; diagonals_are = rw opened; rights_are = rw opened; ups_are = rw opened; sources_are = rw opened } in
       let reads = read_coefficients_lem bytes zeros zeros zeros zeros none (film_head g) loads in
       let same = sym e ∙ reads in
       record {

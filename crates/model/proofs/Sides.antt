@@ -19,7 +19,7 @@ use Rattle.model.specs.Integers.{at_most_zero}
 use Rattle.model.specs.Film.{Film, link_if, beside, across, neighbours, pull_of, diagonal_at, right_at, up_at, slack_of}
 use Rattle.model.specs.Checks.{not_dominant}
 use Rattle.model.specs.Reynolds.{pressure_at}
-use Rattle.model.proofs.Film.{slack-at_most_zero}
+use Rattle.model.proofs.Film.{slack_at_most_zero}
 use Rattle.model.proofs.Checks.{and_parts}
 
 -- ---- cells and their indices
@@ -37,11 +37,11 @@ index C r c = (r - 1) * C + (c - 1)
 
 -- the test for a cell passes at cells and nowhere else
 module _ (R C r c : ℕ) where
-  cell-true : Cell R C r c → (leb 1 r && leb r R && leb 1 c && leb c C) ≡ true
-  cell-true w = rw (le-leb 1 r w.below, le-leb r R w.above, le-leb 1 c w.left, le-leb c C w.right)
+  cell_true : Cell R C r c → (leb 1 r && leb r R && leb 1 c && leb c C) ≡ true
+  cell_true w = rw (le-leb 1 r w.below, le-leb r R w.above, le-leb 1 c w.left, le-leb c C w.right)
 
-  pub true-cell : (leb 1 r && leb r R && leb 1 c && leb c C) ≡ true → Cell R C r c
-  true-cell e =
+  pub true_cell : (leb 1 r && leb r R && leb 1 c && leb c C) ≡ true → Cell R C r c
+  true_cell e =
       let three = and_parts _ (leb c C) e in
       let two = and_parts _ (leb 1 c) three.0 in
       let one = and_parts (leb 1 r) (leb r R) two.0 in
@@ -85,12 +85,12 @@ module _ {R C r c : ℕ} (w : Cell R C r c) where
 -- a list's number for a cell; on the ring, where nothing is inside, 0
 module _ (g : Gauge) (p : List ℕ) {r c i : ℕ} where
   pub number_at_lem : Cell g.rows g.columns r c → i ≡ index g.columns r c → get_or p i 0 ≡ pressure_at g p r c
-  number_at_lem w e = rw (cell-true g.rows g.columns r c w, e)
+  number_at_lem w e = rw (cell_true g.rows g.columns r c w, e)
 
   pub number_if : (inside : Bool) → (inside ≡ true ↔ Cell g.rows g.columns r c) → (Cell g.rows g.columns r c → i ≡ index g.columns r c)
       → cond inside (get_or p i 0) 0 ≡ pressure_at g p r c
   number_if true t e = number_at_lem (t.0 refl) (e (t.0 refl))
-  number_if false t e = go (leb 1 r && leb r g.rows && leb 1 c && leb c g.columns) (λ h. t.1 (true-cell g.rows g.columns r c h))
+  number_if false t e = go (leb 1 r && leb r g.rows && leb 1 c && leb c g.columns) (λ h. t.1 (true_cell g.rows g.columns r c h))
     where
       go : (b : Bool) → (b ≡ true → false ≡ true) → 0 ≡ cond b (get_or p (index g.columns r c) 0) 0
       go true h = absurd (false≢true (h refl))
@@ -145,31 +145,31 @@ module _ (f : Film) (p : List ℕ) where
     right_side : Side r (c + 1) right (ltb (c - 1 + 1) f.columns) (index f.columns r c + 1) (right_at f (index f.columns r c))
     right_side = side (omega (arith, ltb-true, lt-ltb)) (λ v. (right_index w, l.right_is v))
 
-    down-side : Side (r - 1) c down (ltb 0 (r - 1)) (index f.columns r c - f.columns) (up_at f (index f.columns r c - f.columns))
-    down-side = side (omega (arith, ltb-true, lt-ltb)) (λ v. (down_index w v, l.down_is v))
+    down_side : Side (r - 1) c down (ltb 0 (r - 1)) (index f.columns r c - f.columns) (up_at f (index f.columns r c - f.columns))
+    down_side = side (omega (arith, ltb-true, lt-ltb)) (λ v. (down_index w v, l.down_is v))
 
-    up-side : Side (r + 1) c up (ltb (r - 1 + 1) f.rows) (index f.columns r c + f.columns) (up_at f (index f.columns r c))
-    up-side = side (omega (arith, ltb-true, lt-ltb)) (λ v. (up_index w, l.up_is v))
+    up_side : Side (r + 1) c up (ltb (r - 1 + 1) f.rows) (index f.columns r c + f.columns) (up_at f (index f.columns r c))
+    up_side = side (omega (arith, ltb-true, lt-ltb)) (λ v. (up_index w, l.up_is v))
 
     pub pull_sides : pull_of f p (index f.columns r c)
         ≡ left * number_at r (c - 1) + right * number_at r (c + 1) + (down * number_at (r - 1) c + up * number_at (r + 1) c)
     unfolding neighbours beside across
     pull_sides =
         rw (index_row w, index_column w)
-        (simp pull_append (λ j. left_side.pulls j + right_side.pulls j + (down-side.pulls j + up-side.pulls j)))
+        (simp pull_append (λ j. left_side.pulls j + right_side.pulls j + (down_side.pulls j + up_side.pulls j)))
 
 -- a weighted row sum is below 1 where the weights beside the cell pull at least as much as its own bears
-pub row-sum : (f : Film) {r c d left right down up : ℕ} → Inside f r c → diagonal_at f (index f.columns r c) ≡ d → Linked f r c left right down up
+pub row_sum : (f : Film) {r c d left right down up : ℕ} → Inside f r c → diagonal_at f (index f.columns r c) ≡ d → Linked f r c left right down up
     → (let weight = pressure_at (grid_of f) f.weights in
     leb (d * weight r c) (left * weight r (c - 1) + right * weight r (c + 1) + (down * weight (r - 1) c + up * weight (r + 1) c))
     ≡ not_dominant f (index f.columns r c))
 unfolding not_dominant
-row-sum f {r} {c} {d} {left} {right} {down} {up} w e l =
+row_sum f {r} {c} {d} {left} {right} {down} {up} w e l =
     let weight : ℕ → ℕ → ℕ = pressure_at (grid_of f) f.weights in
     let pulled : ℕ = left * weight r (c - 1) + right * weight r (c + 1) + (down * weight (r - 1) c + up * weight (r + 1) c) in
     let own : d * weight r c + 0 ≡ d * weight r c = omega arith in
     let pull : pulled + 0 ≡ pulled = omega arith in
     sym
     ((λ j. at_most_zero (slack_of (e j) (pull_sides f f.weights w l j) (pos 0) (number_at_lem (grid_of f) f.weights w refl j)))
-    ∙ slack-at_most_zero d pulled (pos 0) (weight r c)
+    ∙ slack_at_most_zero d pulled (pos 0) (weight r c)
     ∙ ap₂ leb own pull)

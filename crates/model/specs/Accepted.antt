@@ -6,24 +6,24 @@ use Rattle.model.specs.Film.{Film, size_of, row_of, column_of, diagonal_at, righ
 
 -- 4, 5 and 10
 pub record Sized (f : Film) : Type 0 where
-  pub rows-some : 1 ≤ f.rows
-  pub rows-low : f.rows ≤ side_limit
-  pub columns-some : 1 ≤ f.columns
-  pub columns-low : f.columns ≤ side_limit
-  pub ceiling-some : 1 ≤ f.ceiling
-  pub ceiling-low : f.ceiling ≤ ceiling_limit
-  pub weights-len : length f.weights ≡ size_of f
-  pub diagonals-len : length f.diagonals ≡ size_of f
-  pub rights-len : length f.rights ≡ size_of f
-  pub ups-len : length f.ups ≡ size_of f
-  pub sources-len : length f.sources ≡ size_of f
+  pub rows_some : 1 ≤ f.rows
+  pub rows_low : f.rows ≤ side_limit
+  pub columns_some : 1 ≤ f.columns
+  pub columns_low : f.columns ≤ side_limit
+  pub ceiling_some : 1 ≤ f.ceiling
+  pub ceiling_low : f.ceiling ≤ ceiling_limit
+  pub weights_len : length f.weights ≡ size_of f
+  pub diagonals_len : length f.diagonals ≡ size_of f
+  pub rights_len : length f.rights ≡ size_of f
+  pub ups_len : length f.ups ≡ size_of f
+  pub sources_len : length f.sources ≡ size_of f
 
 -- 14, at one cell
 pub record LimitedCell (f : Film) (i : ℕ) : Type 0 where
-  pub diagonal-some : 1 ≤ diagonal_at f i
-  pub diagonal-low : diagonal_at f i ≤ diagonal_limit
-  pub right-low : right_at f i ≤ link_limit
-  pub up-low : up_at f i ≤ link_limit
+  pub diagonal_some : 1 ≤ diagonal_at f i
+  pub diagonal_low : diagonal_at f i ≤ diagonal_limit
+  pub right_low : right_at f i ≤ link_limit
+  pub up_low : up_at f i ≤ link_limit
   pub right_edge : f.columns ≤ column_of f i + 1 → right_at f i ≡ 0
   pub up_edge : f.rows ≤ row_of f i + 1 → up_at f i ≡ 0
   pub source_low : nat_abs (source_at f i) ≤ source_limit

@@ -33,7 +33,7 @@ coefficient_load_check bytes weights diagonals rights ups sources =
 -- the answer and the five buffers at exit, from those at entry, where the tests found c and the film is f
 pub record LoadsFilm (c : Check) (f : Film) (weights diagonals rights ups : List ℕ) (sources : List ℤ) (answer : Answer Head) (weights' diagonals' rights' ups' : List ℕ) (sources' : List ℤ)
     : Type 0 where
-  pub answer-is : answer ≡ answer_by c (film_head f)
+  pub answer_is : answer ≡ answer_by c (film_head f)
   pub weights_are : weights' ≡ kept c (laid_over f.weights weights) weights
   pub diagonals_are : diagonals' ≡ kept c (laid_over f.diagonals diagonals) diagonals
   pub rights_are : rights' ≡ kept c (laid_over f.rights rights) rights

@@ -115,4 +115,4 @@ writer_check f fits =
 -- What types and lengths say of a film as the writer takes it: it has a number of each list for each cell, and a weight has 16 bits.
 pub record CoefficientValues (f : Film) : Type 0 where
   pub fits : film_fits f ≡ true
-  pub weight-word : (i : ℕ) → get_or f.weights i 0 < 65536
+  pub weight_word : (i : ℕ) → get_or f.weights i 0 < 65536

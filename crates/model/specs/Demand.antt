@@ -84,11 +84,11 @@ pub record Holds (f : Film) (ss : List Step) : Type 0 where
   pub rises : Each exit_of (λ entry s. entry ⊑ exit_of s) (zero_field f) ss
   pub under : Each exit_of (λ entry s. (z : List ℕ) → Feasible f z → exit_of s ⊑ z) (zero_field f) ss
   -- a run answered Done leaves a feasible field, and every other feasible field has at least as much in each cell
-  pub done-least : Each exit_of (λ entry s. verdict_of (size_of f) s ≡ Verdict.done → Feasible f (exit_of s) × ((z : List ℕ) → Feasible f z → exit_of s ⊑ z)) (zero_field f) ss
+  pub done_least : Each exit_of (λ entry s. verdict_of (size_of f) s ≡ Verdict.done → Feasible f (exit_of s) × ((z : List ℕ) → Feasible f z → exit_of s ⊑ z)) (zero_field f) ss
   -- Over only if nothing is feasible
   pub over_none : Each exit_of (λ entry s. verdict_of (size_of f) s ≡ Verdict.over → (z : List ℕ) → Feasible f z → ⊥) (zero_field f) ss
   -- of the runs with a budget of at least N, those answered Stopped number at most the total of the least field
-  pub stopped-least : (q : List ℕ) → Least f q → exhaustions (verdict_of (size_of f)) ss ≤ total q
+  pub stopped_least : (q : List ℕ) → Least f q → exhaustions (verdict_of (size_of f)) ss ≤ total q
   -- or N × ceiling if nothing is feasible
   pub stopped_none : ((z : List ℕ) → Feasible f z → ⊥) → exhaustions (verdict_of (size_of f)) ss ≤ size_of f * f.ceiling
 
@@ -102,5 +102,5 @@ pub record Claimed (f : Film) : Type 0 where
   pub every_list : (cs : List Call) → (ss : List Step) × History f ss × (calls_of ss ≡ cs)
   -- where any field is feasible there is a least field, and it is feasible; so there is a least field, or no field is feasible
   pub least_exists : (z : List ℕ) → Feasible f z → (q : List ℕ) × Least f q
-  pub least-feasible : (q : List ℕ) → Least f q → Feasible f q
+  pub least_feasible : (q : List ℕ) → Least f q → Feasible f q
   pub least_or_none : ((q : List ℕ) × Least f q) ⊎ ((z : List ℕ) → Feasible f z → ⊥)

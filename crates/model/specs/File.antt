@@ -213,16 +213,16 @@ pub record Bytes (l : List ℕ) : Type 0 where
   pub byte : (i : ℕ) → get_or l i 0 < 256
 
 pub record Values (g : Gauge) : Type 0 where
-  pub weights-len : length g.weights ≡ cells g.rows g.columns
-  pub thicknesses-len : length g.thicknesses ≡ ringed g.rows g.columns
-  pub ceiling-long : g.ceiling < 4294967296
-  pub weight-word : (i : ℕ) → get_or g.weights i 0 < 65536
+  pub weights_len : length g.weights ≡ cells g.rows g.columns
+  pub thicknesses_len : length g.thicknesses ≡ ringed g.rows g.columns
+  pub ceiling_long : g.ceiling < 4294967296
+  pub weight_word : (i : ℕ) → get_or g.weights i 0 < 65536
   pub thickness_byte : (j : ℕ) → get_or g.thicknesses j 0 < 256
 
 -- W5: "Such a file writes back with its found weights in place": an empty field 03, and the field with these weights between the same bytes
 pub record InPlace (weights bytes out : List ℕ) : Type 0 where
   pub front : List ℕ
   pub back : List ℕ
-  pub front-len : length front ≡ fields_end (shape_field ∷ ceiling_field ∷ []) 0
+  pub front_len : length front ≡ fields_end (shape_field ∷ ceiling_field ∷ []) 0
   pub was : bytes ≡ front ++ field 3 0 [] ++ back
   pub is : out ≡ front ++ field 3 (2 * length weights) (weight_bytes weights) ++ back

@@ -58,7 +58,7 @@ form_check g diagonals rights ups sources =
 -- the call's answer and its four slices at exit, from those at entry
 pub record Forms (g : Gauge) (diagonals rights ups : List ℕ) (sources : List ℤ) (answer : Answer (Unit {0})) (diagonals' rights' ups' : List ℕ) (sources' : List ℤ)
     : Type 0 where
-  pub answer-is : answer ≡ answer_by (form_check g diagonals rights ups sources) tt
+  pub answer_is : answer ≡ answer_by (form_check g diagonals rights ups sources) tt
   pub diagonals_are : diagonals' ≡ kept (form_check g diagonals rights ups sources) (formed g).diagonals diagonals
   pub rights_are : rights' ≡ kept (form_check g diagonals rights ups sources) (formed g).rights rights
   pub ups_are : ups' ≡ kept (form_check g diagonals rights ups sources) (formed g).ups ups
@@ -95,13 +95,13 @@ abbrev pub laid_over : {A : Type 0} → List A → List A → List A
 laid_over new old = new ++ drop (length new) old
 
 pub record Loads (bytes weights thicknesses : List ℕ) (answer : Answer LoadAnswer) (weights' thicknesses' : List ℕ) : Type 0 where
-  pub answer-is : answer ≡ answer_by (load_check bytes weights thicknesses) (load_answer (gauge_in bytes))
+  pub answer_is : answer ≡ answer_by (load_check bytes weights thicknesses) (load_answer (gauge_in bytes))
   pub weights_are : weights' ≡ kept (load_check bytes weights thicknesses) (laid_over (gauge_in bytes).weights weights) weights
   pub thicknesses_are : thicknesses' ≡ kept (load_check bytes weights thicknesses) (laid_over (gauge_in bytes).thicknesses thicknesses) thicknesses
 
 -- what the reader gives of a file that the writer made of g: the film's numbers, laid over its buffers
 pub record ReadsBack (g : Gauge) (weights thicknesses : List ℕ) (answer : Answer LoadAnswer) (weights' thicknesses' : List ℕ) : Type 0 where
-  pub answer-is : answer ≡ answered (load_answer g)
+  pub answer_is : answer ≡ answered (load_answer g)
   pub weights_are : weights' ≡ laid_over g.weights weights
   pub thicknesses_are : thicknesses' ≡ laid_over g.thicknesses thicknesses
 

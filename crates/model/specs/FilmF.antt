@@ -130,16 +130,16 @@ pub record CoefficientEdges : Type 0 where
   pub writes : coefficient_file_of film_f ≡ converted_f
   pub reads : read_coefficients converted_f ≡ answered film_f
   pub report : report_of converted_f ≡ report_f
-  pub not-gauged : read_film converted_f ≡ refused 2 19
-  pub not-coefficients : read_coefficients bytes_f ≡ refused 2 19
+  pub not_gauged : read_film converted_f ≡ refused 2 19
+  pub not_coefficients : read_coefficients bytes_f ≡ refused 2 19
   pub tag_alone : report_of (take 20 converted_f) ≡ refused_line 1 20
   pub without_last : read_coefficients (take 70 (set converted_f 25 0)) ≡ refused 1 70
   pub with_another : read_coefficients (converted_f ++ (0 ∷ [])) ≡ refused 2 71
   pub diagonal_0 : read_coefficients (set converted_f 25 0) ≡ refused 14 0
-  pub lowest-cell : read_coefficients (set (set converted_f 29 0) 55 0x80) ≡ refused 14 0
+  pub lowest_cell : read_coefficients (set (set converted_f 29 0) 55 0x80) ≡ refused 14 0
   pub source_least : read_coefficients (set (set (set (set (set (set (set (set converted_f 63 0x80) 64 0) 65 0) 66 0) 67 0) 68 0) 69 0) 70 0) ≡ refused 14 1
   pub link_out : read_coefficients (set converted_f 40 1) ≡ refused 14 1
-  pub not-dominant : read_coefficients (set converted_f 25 0x1b) ≡ refused 9 0
+  pub not_dominant_lem : read_coefficients (set converted_f 25 0x1b) ≡ refused 9 0
 
 -- Document 02, W2: the film with a field 0A, whose tag, length and two steps stand behind its five; and its coefficients
 abbrev pub step_bytes : ℕ → ℕ → List ℕ
@@ -198,15 +198,15 @@ pub record WeightEdges : Type 0 where
   pub reads : read_film (unweighted bytes_f) ≡ answered (gauge_f 100 (pos 100))
   pub report : report_of (unweighted bytes_f) ≡ report_f
   pub coefficients : read_coefficients (unweighted converted_f) ≡ answered film_f
-  pub coefficients-report : report_of (unweighted converted_f) ≡ report_f
+  pub coefficients_report : report_of (unweighted converted_f) ≡ report_f
   pub without_last : read_film (take 36 (unweighted bytes_f)) ≡ refused 1 36
   pub with_another : read_film (unweighted bytes_f ++ (0 ∷ [])) ≡ refused 2 37
   pub thickness_0 : read_film (set (unweighted bytes_f) 18 0) ≡ refused 7 18
   pub wedge_high : read_film (set (unweighted bytes_f) 33 0x7f) ≡ refused 8 33
   pub with_steps : read_film (unweighted bytes_f ++ step_bytes 4 5) ≡ refused 15 41
   pub of_two : read_film (set (unweighted bytes_f) 14 2) ≡ refused 3 12
-  pub not-gauged : read_film (unweighted converted_f) ≡ refused 2 15
-  pub not-coefficients : read_coefficients (unweighted bytes_f) ≡ refused 2 15
+  pub not_gauged : read_film (unweighted converted_f) ≡ refused 2 15
+  pub not_coefficients : read_coefficients (unweighted bytes_f) ≡ refused 2 15
   pub over_0 : read_coefficients (strained 0x33) ≡ refused 16 0
   pub over_1 : read_coefficients (strained 1) ≡ refused 16 1
   pub after_14 : read_coefficients (set (strained 1) 21 0) ≡ refused 14 0

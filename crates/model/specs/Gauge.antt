@@ -44,5 +44,5 @@ by_factors f = steps.Given f
 pub record Stepped (f : Factors) : Type 0 where
   pub along_some : 1 ≤ f.along
   pub along_low : f.along ≤ step_limit
-  pub across-some : 1 ≤ f.across
-  pub across-low : f.across ≤ step_limit
+  pub across_some : 1 ≤ f.across
+  pub across_low : f.across ≤ step_limit

@@ -45,5 +45,5 @@ unrefused r = record { answer = answered r.answer; lent = r.lent }
 
 -- a call gave just that
 pub record Gives {A : Type 0} (result : Result A) (answer : A) (exit : List ℕ) : Type 0 where
-  pub answer-is : answer ≡ result.answer
+  pub answer_is : answer ≡ result.answer
   pub lent_is : exit ≡ result.lent

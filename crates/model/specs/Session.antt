@@ -25,10 +25,10 @@ pub record GaugedSession (bytes : List ℕ) (f : Film) : Type 0 where
   pub rights : List ℕ
   pub ups : List ℕ
   pub sources : List ℤ
-  pub diagonals-len : length diagonals ≡ head.rows * head.columns
-  pub rights-len : length rights ≡ head.rows * head.columns
-  pub ups-len : length ups ≡ head.rows * head.columns
-  pub sources-len : length sources ≡ head.rows * head.columns
+  pub diagonals_len : length diagonals ≡ head.rows * head.columns
+  pub rights_len : length rights ≡ head.rows * head.columns
+  pub ups_len : length ups ≡ head.rows * head.columns
+  pub sources_len : length sources ≡ head.rows * head.columns
   pub diagonals' : List ℕ
   pub rights' : List ℕ
   pub ups' : List ℕ

@@ -69,4 +69,4 @@ pub record LeastWeights (f : Film) (w : List ℕ) : Type 0 where
   pub some : (i : ℕ) → i < size_of f → 1 ≤ get_or w i 0
   pub low : (i : ℕ) → get_or w i 0 ≤ weight_limit
   pub under : (z : List ℕ) → Weights f z → (i : ℕ) → i < size_of f → get_or w i 0 ≤ get_or z i 0
-  pub under-signed : (a b : List ℕ) → SignedWeights f a b → (i : ℕ) → i < size_of f → get_or w i 0 + get_or b i 0 ≤ get_or a i 0
+  pub under_signed : (a b : List ℕ) → SignedWeights f a b → (i : ℕ) → i < size_of f → get_or w i 0 + get_or b i 0 ≤ get_or a i 0

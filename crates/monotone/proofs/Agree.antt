@@ -7,11 +7,11 @@ use lib.Dec.{eqb}
 use lib.ListN.{get_or, set}
 use Rattle.monotone.specs.Rule.{Rule}
 use Rattle.monotone.specs.Sweep.{Relaxation, quiet, raise, exceed, over, State, Swept, relax, next, relax_of, kept, raised, exceeded, close, turn, sweep}
-use Rattle.monotone.proofs.Sweep.{next-inside}
+use Rattle.monotone.proofs.Sweep.{next_inside}
 
 module _ (size ceiling : ℕ) (required required' : List ℕ → ℕ → ℕ) (order order' : ℕ → ℕ)
-    (same-cell : (k : ℕ) → k < size → order k ≡ order' k) (in_grid : (k : ℕ) → k < size → order k < size)
-    (same-required : (p : List ℕ) (i : ℕ) → i < size → required p i ≡ required' p i) where
+    (same_cell : (k : ℕ) → k < size → order k ≡ order' k) (in_grid : (k : ℕ) → k < size → order k < size)
+    (same_required : (p : List ℕ) (i : ℕ) → i < size → required p i ≡ required' p i) where
   abbrev F : Rule
   F = record { size = size; ceiling = ceiling; required = required }
 
@@ -20,10 +20,10 @@ module _ (size ceiling : ℕ) (required required' : List ℕ → ℕ → ℕ) (o
 
   module _ (s : State) (h : s.place < size) where
     cells : order s.place ≡ order' s.place
-    cells = same-cell s.place h
+    cells = same_cell s.place h
 
     need : required s.field (order s.place) ≡ required' s.field (order' s.place)
-    need = same-required s.field (order s.place) (in_grid s.place h) ∙ ap (required' s.field) cells
+    need = same_required s.field (order s.place) (in_grid s.place h) ∙ ap (required' s.field) cells
 
     found : relax ceiling (required s.field (order s.place)) (get_or s.field (order s.place) 0)
         ≡ relax ceiling (required' s.field (order' s.place)) (get_or s.field (order' s.place) 0)
@@ -33,12 +33,12 @@ module _ (size ceiling : ℕ) (required required' : List ℕ → ℕ → ℕ) (o
     module _ (on on' : State → Swept) (then : (t : State) → t.place < size → on t ≡ on' t) where
       closed : (b : Bool) → close F order b (kept F order s) on ≡ close G order' b (kept G order' s) on'
       closed true = refl
-      closed false = then (kept F order s) (next-inside size s.place h)
+      closed false = then (kept F order s) (next_inside size s.place h)
 
       turned : (k : Relaxation) → turn F order k s on ≡ turn G order' k s on'
       turned quiet = closed (eqb (s.quiets + 1) size)
       turned raise =
-          then (raised F order s) (next-inside size s.place h)
+          then (raised F order s) (next_inside size s.place h)
           ∙ ap₂ (λ (r i : ℕ). on' (record {
             field = set s.field i r;
             visits = s.visits + 1;

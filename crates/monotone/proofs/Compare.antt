@@ -9,20 +9,20 @@ use native.Mathlib.Decide.{dec_le}
 use native.Mathlib.Omega.{arith}
 use Rattle.monotone.specs.Links.{pull}
 
-pub pull-mono : (ls : List (ℕ × ℕ)) {p q : ℕ → ℕ} → ((j : ℕ) → p j ≤ q j) → pull ls p ≤ pull ls q
-pull-mono [] h = le_refl 0
-pull-mono (l ∷ ls) h = omega (arith, mul-le-mul_left l.1 (h l.0), pull-mono ls h)
+pub pull_mono : (ls : List (ℕ × ℕ)) {p q : ℕ → ℕ} → ((j : ℕ) → p j ≤ q j) → pull ls p ≤ pull ls q
+pull_mono [] h = le_refl 0
+pull_mono (l ∷ ls) h = omega (arith, mul-le-mul_left l.1 (h l.0), pull_mono ls h)
 
-pub pull-add : (ls : List (ℕ × ℕ)) (a b c : ℕ → ℕ) → ((j : ℕ) → a j ≡ b j + c j) → pull ls a ≡ pull ls b + pull ls c
-pull-add [] a b c h = refl
-pull-add (l ∷ ls) a b c h =
+pub pull_add : (ls : List (ℕ × ℕ)) (a b c : ℕ → ℕ) → ((j : ℕ) → a j ≡ b j + c j) → pull ls a ≡ pull ls b + pull ls c
+pull_add [] a b c h = refl
+pull_add (l ∷ ls) a b c h =
     let here : l.1 * a l.0 ≡ l.1 * (b l.0 + c l.0) = ap (λ (k : ℕ). l.1 * k) (h l.0) in
-    omega (arith, here, mul-add l.1 (b l.0) (c l.0), pull-add ls a b c h)
+    omega (arith, here, mul-add l.1 (b l.0) (c l.0), pull_add ls a b c h)
 
-pull-split : (ls : List (ℕ × ℕ)) (x z d : ℕ → ℕ) → ((j : ℕ) → x j ≤ z j + d j) → pull ls x ≤ pull ls z + pull ls d
-pull-split [] x z d h = zero-le
-pull-split (l ∷ ls) x z d h =
-    omega (arith, mul-le-mul_left l.1 (h l.0), mul-add l.1 (z l.0) (d l.0), pull-split ls x z d h)
+pull_split : (ls : List (ℕ × ℕ)) (x z d : ℕ → ℕ) → ((j : ℕ) → x j ≤ z j + d j) → pull ls x ≤ pull ls z + pull ls d
+pull_split [] x z d h = zero-le
+pull_split (l ∷ ls) x z d h =
+    omega (arith, mul-le-mul_left l.1 (h l.0), mul-add l.1 (z l.0) (d l.0), pull_split ls x z d h)
 
 pull_cross : (ls : List (ℕ × ℕ)) (d w : ℕ → ℕ) (a b : ℕ) → ((j : ℕ) → d j * a ≤ b * w j) → pull ls d * a ≤ b * pull ls w
 pull_cross [] d w a b h = rw zero-mul zero-le
@@ -65,15 +65,15 @@ module _ (ls : List (ℕ × ℕ)) (k : ℕ) (x z w : ℕ → ℕ) (m : ℕ) wher
       → k * x m + pull ls z ≤ k * z m + pull ls x → ⊥
   no_peak dominant top above weak =
       let d : ℕ → ℕ = λ j. x j - z j in
-      let split : pull ls x ≤ pull ls z + pull ls d = pull-split ls x z d (λ j. omega arith) in
+      let split : pull ls x ≤ pull ls z + pull ls d = pull_split ls x z d (λ j. omega arith) in
       let cross : pull ls d * w m ≤ d m * pull ls w = pull_cross ls d w (w m) (d m) top in
       let grows : k * (z m + d m) ≡ k * x m = ap (λ t. k * t) (omega arith) in
       let pulled : k * d m ≤ pull ls d = omega (arith, mul-add k (z m) (d m)) in
       omega (arith, mul-le-mul_right (w m) pulled, mul-lt-mul_of_pos_left {k = d m} dominant (omega arith), mul_assoc k (d m) (w m), mul_left_comm k (d m) (w m))
 
-pub pos-right : (k b : ℕ) {a : ℕ} → a < k * b → 0 < b
-pos-right k zero h = omega arith
-pos-right k (suc b) h = omega arith
+pub pos_right : (k b : ℕ) {a : ℕ} → a < k * b → 0 < b
+pos_right k zero h = omega arith
+pos_right k (suc b) h = omega arith
 
 pub pos_left : (a k : ℕ) {b : ℕ} → b < a * k → 0 < a
 pos_left zero k h = omega (arith, zero-mul k)
@@ -81,7 +81,7 @@ pos_left (suc a) k h = omega arith
 
 module _ (n : ℕ) (links : ℕ → List (ℕ × ℕ)) (diagonal w : ℕ → ℕ) (dominant : (i : ℕ) → i < n → pull (links i) w < diagonal i * w i) where
   weighed : (i : ℕ) → i < n → 0 < w i
-  weighed i h = pos-right (diagonal i) (w i) (dominant i h)
+  weighed i h = pos_right (diagonal i) (w i) (dominant i h)
 
   -- x is nowhere above z, if that is so past the last cell, and x is no weaker than z wherever it is above z
   pub compare : (x z : ℕ → ℕ) → ((i : ℕ) → n ≤ i → x i ≤ z i)

@@ -14,37 +14,37 @@ use Rattle.monotone.specs.Rule.{Rule, Monotone, Bounded, Feasible, Start, Rises,
 use Rattle.monotone.specs.Sweep.{Ending, done, over, stopped, Swept}
 use Rattle.monotone.specs.Outcome.{Says, Outcome}
 use Rattle.monotone.specs.History.{Verdict, Shows, Good, sweep_verdict, count_of, zeros, Each, exhaustions, Promise}
-use Rattle.monotone.proofs.Order.{feasible_satisfied, ⊑-antisym, total_mono, bounded-total, rises-refl, rises_trans}
+use Rattle.monotone.proofs.Order.{feasible_satisfied, ⊑-antisym, total_mono, bounded_total, rises_refl, rises_trans}
 use Rattle.monotone.proofs.Ordering.{permutes_up}
 use Rattle.monotone.proofs.Sweep.{sweep_outcome, visits_bound}
 
-zeros-at : (n i : ℕ) → get_or {A = ℕ} (replicate n 0) i 0 ≡ 0
-zeros-at zero i = refl
-zeros-at (suc n) zero = refl
-zeros-at (suc n) (suc i) = zeros-at n i
+zeros_at : (n i : ℕ) → get_or {A = ℕ} (replicate n 0) i 0 ≡ 0
+zeros_at zero i = refl
+zeros_at (suc n) zero = refl
+zeros_at (suc n) (suc i) = zeros_at n i
 
-pub zeros-under : (F : Rule) (z : List ℕ) → zeros F ⊑ z
-zeros-under F z = record { at = λ i. rw (zeros-at F.size i) zero-le }
+pub zeros_under : (F : Rule) (z : List ℕ) → zeros F ⊑ z
+zeros_under F z = record { at = λ i. rw (zeros_at F.size i) zero-le }
 
-pub zeros-bounded : (F : Rule) → Bounded F (zeros F)
-zeros-bounded F = record { len = length-replicate _ _; low = λ i. rw (zeros-at F.size i) zero-le }
+pub zeros_bounded : (F : Rule) → Bounded F (zeros F)
+zeros_bounded F = record { len = length-replicate _ _; low = λ i. rw (zeros_at F.size i) zero-le }
 
 -- the zero field is a start
 pub zeros_start : (F : Rule) → Start F (zeros F)
-zeros_start F = record { bounded = zeros-bounded F; under = λ z _. zeros-under F z }
+zeros_start F = record { bounded = zeros_bounded F; under = λ z _. zeros_under F z }
 
-pub zeros-total : (n : ℕ) → total (replicate n 0) ≡ 0
-zeros-total zero = refl
-zeros-total (suc n) = omega (arith, zeros-total n)
+pub zeros_total : (n : ℕ) → total (replicate n 0) ≡ 0
+zeros_total zero = refl
+zeros_total (suc n) = omega (arith, zeros_total n)
 
 -- there is only one least field
-pub least-one : {F : Rule} {p q : List ℕ} → Least F p → Least F q → p ≡ q
-least-one {F} {p} {q} A B =
+pub least_one : {F : Rule} {p q : List ℕ} → Least F p → Least F q → p ≡ q
+least_one {F} {p} {q} A B =
     ⊑-antisym (A.feasible.bounded.len ∙ sym B.feasible.bounded.len) (A.under q B.feasible) (B.under p A.feasible)
 
 -- Good calls: one that leaves the field alone, a sound proposal, and a sweep after proposals that took the field from p to q.
 pub good_same : {F : Rule} {p : List ℕ} → Bounded F p → Good F p p Verdict.other
-good_same f = record { rises = rises-refl f; shows = tt }
+good_same f = record { rises = rises_refl f; shows = tt }
 
 pub good_proposal : {F : Rule} {p q : List ℕ} → Rises F p q → Good F p q Verdict.other
 good_proposal A = record { rises = A; shows = tt }
@@ -65,14 +65,14 @@ good_sweep {F} {p} {q} {budget} r A O =
     by stopped h = covered (leb F.size budget) refl h.1
 
 -- the relaxations of a sweep, where proposals took the field from p to q before it
-pub call-visits : {F : Rule} {p q : List ℕ} {budget : ℕ} {r : Swept} → Rises F p q → Outcome F q budget r
+pub call_visits : {F : Rule} {p q : List ℕ} {budget : ℕ} {r : Swept} → Rises F p q → Outcome F q budget r
     → r.last.visits ≤ F.size * (1 + (total r.last.field - total p))
-call-visits {F} {p} {q} {budget} {r} A O =
+call_visits {F} {p} {q} {budget} {r} A O =
     le_trans (visits_bound O) (mul-le-mul_left F.size (omega (arith, total_mono A.rose)))
 
 -- A rule has a least field or nothing is feasible: a sweep from the zero field with enough budget does not end in Stopped.
 pub least_or_none : (F : Rule) → Monotone F → ((q : List ℕ) × Least F q) ⊎ ((z : List ℕ) → Feasible F z → ⊥)
-least_or_none F M = go _ (sweep_outcome F (λ k. k) M (permutes_up F.size) (zeros F) budget (zeros-bounded F))
+least_or_none F M = go _ (sweep_outcome F (λ k. k) M (permutes_up F.size) (zeros F) budget (zeros_bounded F))
   where
     budget : ℕ
     budget = F.size * (F.size * F.ceiling + 1) + 1
@@ -82,10 +82,10 @@ least_or_none F M = go _ (sweep_outcome F (λ k. k) M (permutes_up F.size) (zero
       where
         by : (x : Ending) → Says F (zeros F) budget x r.last → ((q : List ℕ) × Least F q) ⊎ ((z : List ℕ) → Feasible F z → ⊥)
         by done h =
-            inl (r.last.field, record { feasible = h; under = λ z M. O.risen.rises.under z (feasible_satisfied M) (zeros-under F z) })
-        by (over i) h = inr (λ z M. h.2 z M (zeros-under F z))
+            inl (r.last.field, record { feasible = h; under = λ z M. O.risen.rises.under z (feasible_satisfied M) (zeros_under F z) })
+        by (over i) h = inr (λ z M. h.2 z M (zeros_under F z))
         by stopped h =
-            let few : r.last.raises + 1 ≤ F.size * F.ceiling + 1 = omega (arith, O.risen.gain, bounded-total O.risen.rises.bounded) in
+            let few : r.last.raises + 1 ≤ F.size * F.ceiling + 1 = omega (arith, O.risen.gain, bounded_total O.risen.rises.bounded) in
             absurd (omega (arith, h.0, O.spent, mul-le-mul_left F.size few))
 
 -- a call on a field p that calls from a start have come to
@@ -148,7 +148,7 @@ module _ (F : Rule) {S : Type 0} (exit : S → List ℕ) (verdict : S → Verdic
     -- Every list of good steps from a start keeps the promise.
     pub history : (ss : List S) → Each exit GoodStep p ss → Promise F exit verdict p ss
     history ss steps =
-        let all = reached p ss (rises-refl start.bounded) steps in
+        let all = reached p ss (rises_refl start.bounded) steps in
         record {
           bounded = each_map exit (λ entry s R. R.from.bounded) p ss all;
           rising = each_map exit (λ entry s R. R.good.rises.rose) p ss all;
@@ -156,11 +156,11 @@ module _ (F : Rule) {S : Type 0} (exit : S → List ℕ) (verdict : S → Verdic
           least = each_map exit (λ entry s R e. good_done start R.from (rw e at R.good)) p ss all;
           none = each_map exit (λ entry s R e. good_over start R.from (rw e at R.good)) p ss all;
           few = λ z M. counted (total z) p ss (total_mono (start.under z M)) all (each_map exit (λ entry s R. total_mono (below entry s R z M)) p ss all);
-          few_ever = counted (F.size * F.ceiling) p ss (bounded-total start.bounded) all (each_map exit (λ entry s R. bounded-total R.good.rises.bounded) p ss all);
+          few_ever = counted (F.size * F.ceiling) p ss (bounded_total start.bounded) all (each_map exit (λ entry s R. bounded_total R.good.rises.bounded) p ss all);
         }
 
   -- any two Done, in one list or in two, leave the same field
   pub history_same : {p q : List ℕ} {ss ts : List S} → Promise F exit verdict p ss → Promise F exit verdict q ts
       → Each exit (λ _ s. Each exit (λ _ t. verdict s ≡ Verdict.done → verdict t ≡ Verdict.done → exit s ≡ exit t) q ts) p ss
   history_same {p} {q} {ss} {ts} A B =
-      each_map exit (λ _ s least. each_map exit (λ _ t other d e. least-one (least d) (other e)) q ts B.least) p ss A.least
+      each_map exit (λ _ s least. each_map exit (λ _ t other d e. least_one (least d) (other e)) q ts B.least) p ss A.least

@@ -49,15 +49,15 @@ total_strict {p = x ∷ p} {q = y ∷ q} h zero l = omega (arith, total_mono (�
 total_strict {p = x ∷ p} {q = y ∷ q} h (suc i) l = omega (arith, h.at 0, total_strict (⊑-tail h) i l)
 
 -- a cell that is set, no higher than f there, in a field that is nowhere above f
-pub set-under : (p : List ℕ) (i v : ℕ) (f : ℕ → ℕ) → ((j : ℕ) → get_or p j 0 ≤ f j) → v ≤ f i → (j : ℕ) → get_or (set p i v) j 0 ≤ f j
-set-under [] i v f h l j = h j
-set-under (x ∷ p) zero v f h l zero = l
-set-under (x ∷ p) zero v f h l (suc j) = h (suc j)
-set-under (x ∷ p) (suc i) v f h l zero = h 0
-set-under (x ∷ p) (suc i) v f h l (suc j) = set-under p i v (λ k. f (suc k)) (λ k. h (suc k)) l j
+pub set_under : (p : List ℕ) (i v : ℕ) (f : ℕ → ℕ) → ((j : ℕ) → get_or p j 0 ≤ f j) → v ≤ f i → (j : ℕ) → get_or (set p i v) j 0 ≤ f j
+set_under [] i v f h l j = h j
+set_under (x ∷ p) zero v f h l zero = l
+set_under (x ∷ p) zero v f h l (suc j) = h (suc j)
+set_under (x ∷ p) (suc i) v f h l zero = h 0
+set_under (x ∷ p) (suc i) v f h l (suc j) = set_under p i v (λ k. f (suc k)) (λ k. h (suc k)) l j
 
 pub raise_under : {p z : List ℕ} (i v : ℕ) → p ⊑ z → v ≤ get_or z i 0 → set p i v ⊑ z
-raise_under {p} {z} i v h l = record { at = set-under p i v (λ j. get_or z j 0) h.at l }
+raise_under {p} {z} i v h l = record { at = set_under p i v (λ j. get_or z j 0) h.at l }
 
 pub raise-⊑ : (p : List ℕ) (i v : ℕ) → get_or p i 0 ≤ v → p ⊑ set p i v
 raise-⊑ p i v h = record { at = go p i h }
@@ -69,24 +69,24 @@ raise-⊑ p i v h = record { at = go p i h }
     go (x ∷ p) (suc i) h zero = le_refl _
     go (x ∷ p) (suc i) h (suc j) = go p i h j
 
-pub total-set : (p : List ℕ) (i v : ℕ) → i < length p → total (set p i v) + get_or p i 0 ≡ total p + v
-total-set [] i v l = omega arith
-total-set (x ∷ p) zero v l = omega arith
-total-set (x ∷ p) (suc i) v l = omega (arith, total-set p i v (omega arith))
+pub total_set : (p : List ℕ) (i v : ℕ) → i < length p → total (set p i v) + get_or p i 0 ≡ total p + v
+total_set [] i v l = omega arith
+total_set (x ∷ p) zero v l = omega arith
+total_set (x ∷ p) (suc i) v l = omega (arith, total_set p i v (omega arith))
 
 -- a field none of whose cells is above c
-pub total-ceiling : (p : List ℕ) (c : ℕ) → ((i : ℕ) → get_or p i 0 ≤ c) → total p ≤ length p * c
-total-ceiling [] c h = zero-le
-total-ceiling (x ∷ p) c h = rw suc-mul (omega (arith, h 0, total-ceiling p c (λ i. h (suc i))))
+pub total_ceiling : (p : List ℕ) (c : ℕ) → ((i : ℕ) → get_or p i 0 ≤ c) → total p ≤ length p * c
+total_ceiling [] c h = zero-le
+total_ceiling (x ∷ p) c h = rw suc-mul (omega (arith, h 0, total_ceiling p c (λ i. h (suc i))))
 
-pub rises-refl : {F : Rule} {p : List ℕ} → Bounded F p → Rises F p p
-rises-refl {F} {p} f = record { bounded = f; rose = ⊑_refl p; under = λ z _ h. h }
+pub rises_refl : {F : Rule} {p : List ℕ} → Bounded F p → Rises F p p
+rises_refl {F} {p} f = record { bounded = f; rose = ⊑_refl p; under = λ z _ h. h }
 
 pub rises_trans : {F : Rule} {p q r : List ℕ} → Rises F p q → Rises F q r → Rises F p r
 rises_trans A B = record { bounded = B.bounded; rose = ⊑_trans A.rose B.rose; under = λ z m h. B.under z m (A.under z m h) }
 
-pub bounded-total : {F : Rule} {p : List ℕ} → Bounded F p → total p ≤ F.size * F.ceiling
-bounded-total {F} {p} f = subst (λ n. total p ≤ n * F.ceiling) f.len (total-ceiling p F.ceiling f.low)
+pub bounded_total : {F : Rule} {p : List ℕ} → Bounded F p → total p ≤ F.size * F.ceiling
+bounded_total {F} {p} f = subst (λ n. total p ≤ n * F.ceiling) f.len (total_ceiling p F.ceiling f.low)
 
 pub feasible_satisfied : {F : Rule} {p : List ℕ} → Feasible F p → Satisfied F p
 feasible_satisfied m = record { len = m.bounded.len; met = m.met }

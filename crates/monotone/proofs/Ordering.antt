@@ -57,8 +57,8 @@ rising_more l n r a j k h b =
     last : k ≡ length l + 0 → get_or (l ++ n ∷ []) j 0 < get_or (l ++ n ∷ []) k 0
     last e = rw (get_or-append l (n ∷ []) 0 j (omega arith), e, get_or-append-add l (n ∷ []) 0 0) (a j (omega arith))
 
-rising-once : (l : List ℕ) → Rising l → (j k : ℕ) → j < length l → k < length l → get_or l j 0 ≡ get_or l k 0 → j ≡ k
-rising-once l r j k a b e =
+rising_once : (l : List ℕ) → Rising l → (j k : ℕ) → j < length l → k < length l → get_or l j 0 ≡ get_or l k 0 → j ≡ k
+rising_once l r j k a b e =
     elim (dec_lt j k) [
       | yes h ↦ absurd (omega (arith, r j k h b))
       | no h ↦ elim (dec_lt k j) [ yes g ↦ absurd (omega (arith, r k j g a)) | no g ↦ le_antisymm (omega arith) (omega arith) ]
@@ -69,9 +69,9 @@ module _ (t : ℕ → Bool) where
   abbrev Passes : ℕ → ℕ → Type 0
   Passes n x = (x < n) × (t x ≡ true)
 
-  picks-pass : (n : ℕ) → All (Passes n) (picks t n)
-  picks-pass zero = λ k h. absurd (omega arith)
-  picks-pass (suc n) = go (t n) refl (λ k h. (omega (arith, (picks-pass n k h).0), (picks-pass n k h).1))
+  picks_pass : (n : ℕ) → All (Passes n) (picks t n)
+  picks_pass zero = λ k h. absurd (omega arith)
+  picks_pass (suc n) = go (t n) refl (λ k h. (omega (arith, (picks_pass n k h).0), (picks_pass n k h).1))
     where
       one : t n ≡ true → All (Passes (suc n)) (n ∷ [])
       one e zero h = (lt-suc_self n, e)
@@ -81,12 +81,12 @@ module _ (t : ℕ → Bool) where
       go true e r = all_append (Passes (suc n)) (picks t n) (n ∷ []) r (one e)
       go false e r = r
 
-  picks-rising : (n : ℕ) → Rising (picks t n)
-  picks-rising zero = λ j k h b. absurd (omega arith)
-  picks-rising (suc n) = go (t n) (picks-rising n)
+  picks_rising : (n : ℕ) → Rising (picks t n)
+  picks_rising zero = λ j k h b. absurd (omega arith)
+  picks_rising (suc n) = go (t n) (picks_rising n)
     where
       go : (b : Bool) → Rising (picks t n) → Rising (cond b (picks t n ++ n ∷ []) (picks t n))
-      go true r = rising_more (picks t n) n r (λ k h. (picks-pass n k h).0)
+      go true r = rising_more (picks t n) n r (λ k h. (picks_pass n k h).0)
       go false r = r
 
   picks_has : (n i : ℕ) → i < n → t i ≡ true → Has (picks t n) i
@@ -106,9 +106,9 @@ module _ (t : ℕ → Bool) where
             | no l ↦ absurd (true≢false (sym e ∙ ap t (le_antisymm (omega arith) (omega arith)) ∙ f))
           ]
 
-pub picks-length : (t : ℕ → Bool) (n : ℕ) → length (picks t n) + length (picks (λ i. not (t i)) n) ≡ n
-picks-length t zero = refl
-picks-length t (suc n) = go (t n) (picks-length t n)
+pub picks_length : (t : ℕ → Bool) (n : ℕ) → length (picks t n) + length (picks (λ i. not (t i)) n) ≡ n
+picks_length t zero = refl
+picks_length t (suc n) = go (t n) (picks_length t n)
   where
     go : (b : Bool) → length (picks t n) + length (picks (λ i. not (t i)) n) ≡ n
         → length (cond b (picks t n ++ n ∷ []) (picks t n)) + length (cond (not b) (picks (λ i. not (t i)) n ++ n ∷ []) (picks (λ i. not (t i)) n)) ≡ suc n
@@ -124,7 +124,7 @@ module _ (t : ℕ → Bool) (n : ℕ) where
   others = picks (λ i. not (t i)) n
 
   both_length : length (passed ++ others) ≡ n
-  both_length = length-append passed others ∙ picks-length t n
+  both_length = length-append passed others ∙ picks_length t n
 
   -- a place of the ordering is a place among those that pass, or one among the others
   data Place (k : ℕ) : Type 0 where
@@ -139,19 +139,19 @@ module _ (t : ℕ → Bool) (n : ℕ) where
       ]
     where
       at_back : (m : ℕ) → k ≡ length passed + m → Place k
-      at_back m e = back m e (omega (arith, picks-length t n)) (rw e (get_or-append-add passed others m 0))
+      at_back m e = back m e (omega (arith, picks_length t n)) (rw e (get_or-append-add passed others m 0))
 
   -- no cell both passes and does not
   apart : (j m : ℕ) → j < length passed → m < length others → get_or passed j 0 ≡ get_or others m 0 → ⊥
   apart j m a b e =
-      true≢false (sym (picks-pass t n j a).1 ∙ ap t e ∙ not-true (t (get_or others m 0)) (picks-pass (λ i. not (t i)) n m b).1)
+      true≢false (sym (picks_pass t n j a).1 ∙ ap t e ∙ not-true (t (get_or others m 0)) (picks_pass (λ i. not (t i)) n m b).1)
 
-  split-once : (j k : ℕ) → Place j → Place k → split_order t n j ≡ split_order t n k → j ≡ k
-  split-once j k (front a p) (front b q) e = rising-once passed (picks-rising t n) j k a b (sym p ∙ e ∙ q)
-  split-once j k (front a p) (back m f b q) e = absurd (apart j m a b (sym p ∙ e ∙ q))
-  split-once j k (back m f a p) (front b q) e = absurd (apart k m b a (sym q ∙ sym e ∙ p))
-  split-once j k (back l f a p) (back m g b q) e =
-      let h : l ≡ m = rising-once others (picks-rising (λ i. not (t i)) n) l m a b (sym p ∙ e ∙ q) in
+  split_once : (j k : ℕ) → Place j → Place k → split_order t n j ≡ split_order t n k → j ≡ k
+  split_once j k (front a p) (front b q) e = rising_once passed (picks_rising t n) j k a b (sym p ∙ e ∙ q)
+  split_once j k (front a p) (back m f b q) e = absurd (apart j m a b (sym p ∙ e ∙ q))
+  split_once j k (back m f a p) (front b q) e = absurd (apart k m b a (sym q ∙ sym e ∙ p))
+  split_once j k (back l f a p) (back m g b q) e =
+      let h : l ≡ m = rising_once others (picks_rising (λ i. not (t i)) n) l m a b (sym p ∙ e ∙ q) in
       omega arith
 
   split_has : (i : ℕ) → i < n → Has (passed ++ others) i
@@ -166,10 +166,10 @@ module _ (t : ℕ → Bool) (n : ℕ) where
   permutes_split =
       record {
         cell = λ k h.
-            all_append (λ x. x < n) passed others (λ j g. (picks-pass t n j g).0) (λ j g. (picks-pass (λ i. not (t i)) n j g).0) k
+            all_append (λ x. x < n) passed others (λ j g. (picks_pass t n j g).0) (λ j g. (picks_pass (λ i. not (t i)) n j g).0) k
             (rw both_length h);
         every = λ i h. found i (split_has i h);
-        once = λ j k a b. split-once j k (place j a) (place k b);
+        once = λ j k a b. split_once j k (place j a) (place k b);
       }
     where
       found : (i : ℕ) → Has (passed ++ others) i → (k : ℕ) × (k < n) × (split_order t n k ≡ i)

@@ -8,7 +8,7 @@ use borrow.Author.Tests.{le-leb, lt-leb, eq-eqb, ne_eqb}
 use lib.ListN.{length, get_or, length-set}
 use Rattle.monotone.specs.Rule.{Rule}
 use Rattle.monotone.specs.Sweep.{done, over, stopped, State, Swept, begin, cell_of, kept, raised, exceeded, sweep}
-use Rattle.monotone.proofs.Sweep.{next-inside}
+use Rattle.monotone.proofs.Sweep.{next_inside}
 
 module _ (F : Rule) (order : ℕ → ℕ) where
   pub sweep_end : (s : State) → sweep F order 0 s ≡ record { answer = stopped; last = s }
@@ -16,25 +16,25 @@ module _ (F : Rule) (order : ℕ → ℕ) where
   sweep_end s = refl
 
   module _ (b : ℕ) (s : State) where
-    pub sweep-quiet : F.required s.field (cell_of F order s) ≤ get_or s.field (cell_of F order s) 0 → s.quiets + 1 < F.size
+    pub sweep_quiet : F.required s.field (cell_of F order s) ≤ get_or s.field (cell_of F order s) 0 → s.quiets + 1 < F.size
         → sweep F order (suc b) s ≡ sweep F order b (kept F order s)
     unfolding sweep
-    sweep-quiet h l = simp (le-leb _ _ h, ne_eqb (s.quiets + 1) F.size (λ e. omega arith))
+    sweep_quiet h l = simp (le-leb _ _ h, ne_eqb (s.quiets + 1) F.size (λ e. omega arith))
 
-    pub sweep-done : F.required s.field (cell_of F order s) ≤ get_or s.field (cell_of F order s) 0 → s.quiets + 1 ≡ F.size
+    pub sweep_done : F.required s.field (cell_of F order s) ≤ get_or s.field (cell_of F order s) 0 → s.quiets + 1 ≡ F.size
         → sweep F order (suc b) s ≡ record { answer = done; last = kept F order s }
     unfolding sweep
-    sweep-done h e = simp (le-leb _ _ h, eq-eqb _ _ e)
+    sweep_done h e = simp (le-leb _ _ h, eq-eqb _ _ e)
 
     pub sweep_raise : get_or s.field (cell_of F order s) 0 < F.required s.field (cell_of F order s) → F.required s.field (cell_of F order s) ≤ F.ceiling
         → sweep F order (suc b) s ≡ sweep F order b (raised F order s)
     unfolding sweep
     sweep_raise h l = simp (lt-leb _ _ h, le-leb _ _ l)
 
-    pub sweep-over : get_or s.field (cell_of F order s) 0 < F.required s.field (cell_of F order s) → F.ceiling < F.required s.field (cell_of F order s)
+    pub sweep_over : get_or s.field (cell_of F order s) 0 < F.required s.field (cell_of F order s) → F.ceiling < F.required s.field (cell_of F order s)
         → sweep F order (suc b) s ≡ record { answer = over (cell_of F order s); last = exceeded F order s }
     unfolding sweep
-    sweep-over h l = simp (lt-leb _ _ h, lt-leb _ _ l)
+    sweep_over h l = simp (lt-leb _ _ h, lt-leb _ _ l)
 
 -- A loop in the state s: what is left of the budget leads to the same end as the whole budget from the start.
 pub record Going (F : Rule) (order : ℕ → ℕ) (budget : ℕ) (p : List ℕ) (s : State) : Type 0 where
@@ -67,23 +67,23 @@ module _ {F : Rule} {order : ℕ → ℕ} {budget : ℕ} {p : List ℕ} (s : Sta
       going_quiet k =
           record {
             len = G.len;
-            inside = next-inside _ _ G.inside;
+            inside = next_inside _ _ G.inside;
             few = k;
             within = omega arith;
             some = omega (arith, G.some);
             calm = omega (arith, G.calm);
-            same = on (sweep-quiet F order _ s quiet k);
+            same = on (sweep_quiet F order _ s quiet k);
           }
 
       pub going_done : s.quiets + 1 ≡ F.size → sweep F order budget (begin p) ≡ record { answer = done; last = kept F order s }
-      going_done k = sym (on (sweep-done F order _ s quiet k))
+      going_done k = sym (on (sweep_done F order _ s quiet k))
 
     module _ (above : get_or s.field (cell_of F order s) 0 < F.required s.field (cell_of F order s)) where
       pub going_raise : F.required s.field (cell_of F order s) ≤ F.ceiling → Going F order budget p (raised F order s)
       going_raise k =
           record {
             len = simp length-set G.len;
-            inside = next-inside _ _ G.inside;
+            inside = next_inside _ _ G.inside;
             few = omega (arith, G.inside);
             within = omega arith;
             some = omega (arith, G.some);
@@ -93,4 +93,4 @@ module _ {F : Rule} {order : ℕ → ℕ} {budget : ℕ} {p : List ℕ} (s : Sta
 
       pub going_over : F.ceiling < F.required s.field (cell_of F order s)
           → sweep F order budget (begin p) ≡ record { answer = over (cell_of F order s); last = exceeded F order s }
-      going_over k = sym (on (sweep-over F order _ s above k))
+      going_over k = sym (on (sweep_over F order _ s above k))

@@ -13,3 +13,4 @@
 //    for any cells is sound if the slack of each cell that it raises is at most 0.
 //
 // proofs/History puts them together: what holds of every list of calls, each of which is good by itself.
+#![tactic(auto)]

@@ -11,10 +11,10 @@ use lib.Dec.{eqb}
 use lib.ListN.{length, set, take, drop, length-append}
 use lib.Seq.{sets, length-sets, sets-eq, take_at}
 use Rattle.monotone.specs.Ordering.{picks, split_order}
-use Rattle.monotone.proofs.Ordering.{picks-length}
+use Rattle.monotone.proofs.Ordering.{picks_length}
 use Rattle.model.specs.Lists.{tabulate}
 use Rattle.model.specs.Run.{even_cell, order_of}
-use Rattle.model.proofs.Lists.{tabulate-is}
+use Rattle.model.proofs.Lists.{tabulate_is}
 use Rattle.order.specs.Order.{by_index, Appended}
 
 -- storing one list after another is storing both joined
@@ -72,9 +72,9 @@ pub append_all : (test : ℕ → Bool) (n : ℕ) {before middle after : List ℕ
     → take n after ≡ tabulate n (split_order test n)
 append_all test n {before} {after = after} h a b =
     let all = picks test n ++ picks (λ i. not (test i)) n in
-    let len : length all ≡ n = length-append (picks test n) (picks (λ i. not (test i)) n) ∙ picks-length test n in
+    let len : length all ≡ n = length-append (picks test n) (picks (λ i. not (test i)) n) ∙ picks_length test n in
     let whole : after ≡ all ++ drop (0 + length all) before = (append_both a b).table ∙ sets-eq all before 0 (omega arith) in
-    ap (take n) whole ∙ take_at all (drop (0 + length all) before) n len ∙ tabulate-is n (split_order test n) 0 all len (λ i l. refl)
+    ap (take n) whole ∙ take_at all (drop (0 + length all) before) n len ∙ tabulate_is n (split_order test n) 0 all len (λ i l. refl)
 
 -- which of the functions serves which order
 module _ (columns n : ℕ) where

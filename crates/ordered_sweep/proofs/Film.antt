@@ -18,19 +18,19 @@ use Rattle.model.proofs.Bare.{bare}
 use Rattle.relaxation.specs.Rule.{rule_by}
 use Rattle.sweep.specs.Sweep.{answer_of, counter_of, order_in, Listed, Ends}
 use Rattle.sweep.specs.declared.Swept.{Swept}
-use Rattle.sweep.proofs.Film.{table-listed, film-sweep}
+use Rattle.sweep.proofs.Film.{table_listed, film_sweep}
 use Rattle.ordered_sweep.specs.Counts.{counts_in}
 
 module _ (f : Film) (l : Limited f) where
   some : 0 < size_of f
-  some = mul-pos l.sized.rows-some l.sized.columns-some
+  some = mul-pos l.sized.rows_some l.sized.columns_some
 
   module _ (order : ℕ) (table p : List ℕ) (e : table ≡ tabulate (size_of f) (ordering f order)) (n : length p ≡ size_of f) where
-    pub cells-listed : Listed table (length p)
-    cells-listed = rw n (table-listed l order table e)
+    pub cells_listed : Listed table (length p)
+    cells_listed = rw n (table_listed l order table e)
 
-    pub cells-some : 0 < length p
-    cells-some = rw n some
+    pub cells_some : 0 < length p
+    cells_some = rw n some
 
     pub run_gives : (budget accepted : ℕ) (s : Swept) (a : Answer RunAnswer) (exit : List ℕ)
         → Ends (rule_by (length table) f.ceiling f.columns f.diagonals f.rights f.ups f.sources) table budget p s exit
@@ -38,11 +38,11 @@ module _ (f : Film) (l : Limited f) where
         → Gives (unrefused (ended (theory.sweep (rule (bare f)) (ordering f order) budget (theory.begin p)) accepted)) a exit
     unfolding neighbours beside across
     run_gives budget accepted s a exit E x =
-        let F = film-sweep l order table e budget p some in
+        let F = film_sweep l order table e budget p some in
         let counts : counts_in (counter_of s) accepted ≡ counts_of (theory.sweep (rule f) (ordering f order) budget (theory.begin p)).last accepted
         = ap₂ (λ (v r : ℕ). record { visits = v; raises = r; accepted = accepted }) (rw F at E.visits) (rw F at E.raises) in
         record {
-          answer-is = x ∙ ap₂ (λ (x : theory.Ending) (c : Counts). answered (end_of x c)) (rw F at E.answer) counts;
+          answer_is = x ∙ ap₂ (λ (x : theory.Ending) (c : Counts). answered (end_of x c)) (rw F at E.answer) counts;
           lent_is = rw F at E.field;
         }
 

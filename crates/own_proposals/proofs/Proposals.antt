@@ -28,7 +28,7 @@ module _ (f : Film) where
       let k : propose (bare f) start proposal p ≡ propose f (line_start f line) (estimate f p (line_start f line)) p
       = propose_bare f start proposal p ∙ ap (λ (x : List ℕ). propose f start x p) o ∙ ap (λ (x : ℕ). propose f x (estimate f p x) p) s in
       let H : Gives (propose f (line_start f line) (estimate f p (line_start f line)) p) a exit = rw k at G in
-      record { accepted-is = e ∙ ap cells_of H.answer-is ∙ sym (zero-add _); field_is = H.Lent-is }
+      record { accepted_is = e ∙ ap cells_of H.answer_is ∙ sym (zero-add _); field_is = H.lent_is }
 
   -- a line has no more cells to raise than columns
   own_low : (line : ℕ) (p : List ℕ) → (propose_own f line (from p)).accepted ≤ f.columns
@@ -49,7 +49,7 @@ module _ (f : Film) where
 
   pub proposing_begin : (p : List ℕ) → Proposing p p 0 0
   unfolding propose_lines
-  proposing_begin p = record { so_far = record { accepted-is = refl; field_is = refl }; low = zero-le }
+  proposing_begin p = record { so_far = record { accepted_is = refl; field_is = refl }; low = zero-le }
 
   own_after : (line : ℕ) (s : Readied) → (propose_own f line s).accepted ≡ s.accepted + (propose_own f line (from s.field)).accepted
   unfolding propose_own
@@ -64,18 +64,18 @@ module _ (f : Film) where
   unfolding propose_lines
   proposing_next p₀ p accepted line more exit w P R =
       let s = propose_lines f line (from p₀) in
-      let a : accepted ≡ s.accepted = P.so_far.accepted-is in
+      let a : accepted ≡ s.accepted = P.so_far.accepted_is in
       let g : p ≡ s.field = P.so_far.field_is in
       record {
         so_far =
             rw add-one
             (record {
-              accepted-is = sym (own_after (suc line) s ∙ ap (λ (n : ℕ). n + (propose_own f (suc line) (from s.field)).accepted) (sym a)
+              accepted_is = sym (own_after (suc line) s ∙ ap (λ (n : ℕ). n + (propose_own f (suc line) (from s.field)).accepted) (sym a)
                   ∙ ap (λ (x : List ℕ). accepted + (propose_own f (suc line) (from x)).accepted) (sym g)
-                  ∙ ap (λ (n : ℕ). accepted + n) (rw (← (add-one line)) (sym R.accepted-is)));
+                  ∙ ap (λ (n : ℕ). accepted + n) (rw (← (add-one line)) (sym R.accepted_is)));
               field_is = rw add-one at R.field_is ∙ ap (λ (x : List ℕ). (propose_own f (suc line) (from x)).field) g ∙ sym (own_field (suc line) s);
             });
-        low = omega (arith, P.low, R.accepted-is, own_low (line + 1) p);
+        low = omega (arith, P.low, R.accepted_is, own_low (line + 1) p);
       }
 
   module _ (A : Accepted f) (p₀ p : List ℕ) (accepted line : ℕ) (P : Proposing p₀ p accepted line) (B : Bounded (rule f) p₀) where
@@ -92,12 +92,12 @@ module _ (f : Film) where
   -- before the relaxations
   pub ready_none : (budget : ℕ) (on : Bool) (p : List ℕ) → budget ≡ 0 → Readies (readied f budget on p) 0 p
   unfolding readied
-  ready_none budget on p e = rw e (record { accepted-is = refl; field_is = refl })
+  ready_none budget on p e = rw e (record { accepted_is = refl; field_is = refl })
 
   pub ready_off : (budget : ℕ) (on : Bool) (p : List ℕ) → on ≡ false → Readies (readied f budget on p) 0 p
   unfolding readied
-  ready_off zero on p e = record { accepted-is = refl; field_is = refl }
-  ready_off (suc b) on p e = rw e (record { accepted-is = refl; field_is = refl })
+  ready_off zero on p e = record { accepted_is = refl; field_is = refl }
+  ready_off (suc b) on p e = rw e (record { accepted_is = refl; field_is = refl })
 
   pub ready_on : (budget : ℕ) (on : Bool) (p : List ℕ) (accepted : ℕ) (exit : List ℕ) → (budget ≡ 0 → ⊥) → on ≡ true
       → Readies (propose_lines f f.rows (from p)) accepted exit → Readies (readied f budget on p) accepted exit

@@ -8,5 +8,5 @@ from p = record { field = p; accepted = 0 }
 
 -- proposals raised so many cells, and left that field
 pub record Readies (r : Readied) (accepted : ℕ) (exit : List ℕ) : Type 0 where
-  pub accepted-is : accepted ≡ r.accepted
+  pub accepted_is : accepted ≡ r.accepted
   pub field_is : exit ≡ r.field

@@ -11,8 +11,8 @@ use Rattle.pointwise.specs.Relaxation.{raise_to, kind_of, field_after, RelaxedAt
 use Rattle.pointwise.specs.declared.Found.{Found}
 
 module _ (ceiling required pressure : ℕ) where
-  pub is-quiet : required ≤ pressure → relax ceiling required pressure ≡ quiet
-  is-quiet h = rw (le-leb _ _ h)
+  pub is_quiet : required ≤ pressure → relax ceiling required pressure ≡ quiet
+  is_quiet h = rw (le-leb _ _ h)
 
   pub is_raise : pressure < required → required ≤ ceiling → relax ceiling required pressure ≡ raise
   is_raise h l = rw (lt-leb _ _ h, le-leb _ _ l)
@@ -51,6 +51,6 @@ raise_above ceiling required pressure e = go (rw e at (see ceiling required pres
     go (was_raise h l) = (h, l)
 
 -- a relaxation by what it found
-pub relaxed-at : {entry exit : List ℕ} {i target : ℕ} {found : Relaxation} {v : Found} (k : Relaxation) → found ≡ k → kind_of v ≡ k
+pub relaxed_at : {entry exit : List ℕ} {i target : ℕ} {found : Relaxation} {v : Found} (k : Relaxation) → found ≡ k → kind_of v ≡ k
     → exit ≡ field_after k entry i target → RelaxedAt entry i target found v exit
-relaxed-at k e f g = record { kind = f ∙ sym e; field = rw e g }
+relaxed_at k e f g = record { kind = f ∙ sym e; field = rw e g }

@@ -35,9 +35,9 @@ judge_by exceed n i c = steps.Over i c
 
 -- one relaxation more does not wrap a counter
 pub record Room (c : Counter) : Type 0 where
-  pub visits-low : c.visits < 18446744073709551615
-  pub raises-low : c.raises ≤ c.visits
-  pub quiet-low : c.quiet ≤ c.visits
+  pub visits_low : c.visits < 18446744073709551615
+  pub raises_low : c.raises ≤ c.visits
+  pub quiet_low : c.quiet ≤ c.visits
 
 -- a relaxation of cell i that finds k: a raise goes to the target
 pub record RelaxedAt (entry : List ℕ) (i target : ℕ) (k : Relaxation) (v : Found) (exit : List ℕ) : Type 0 where

@@ -2,13 +2,14 @@
 // it, and the place that comes next. Internal: `relax` and the sweep are made of them.
 //
 // Proved: each part is the theory's (crate `monotone`): a relaxation by cases, its counts, and that a whole round of quiet ones ends.
+#![tactic(auto)]
 ghost use Rattle.std.specs.Prelude.{◌≡◌, ◌<◌, length};
 ghost use Rattle.monotone.specs.Sweep.{relax, next};
 ghost use Rattle.pointwise.specs.Relaxation.{Room, count_after, kind_of, judge_by, RelaxedAt};
 
 // What a sweep has counted: relaxations, raises, and quiet relaxations since the last raise. Each has a machine word of its own, so that
 // the loop keeps it in a register.
-#[derive(Drop)]
+#[derive(Clone, Copy)]
 pub struct Counter {
     pub visits: u64,
     pub raises: u64,
@@ -16,7 +17,7 @@ pub struct Counter {
 }
 
 // What one relaxation found.
-#[derive(Drop)]
+#[derive(Clone, Copy)]
 pub enum Found {
     Quiet,
     Raised,
@@ -24,14 +25,14 @@ pub enum Found {
 }
 
 // What one relaxation found, and the counts after it.
-#[derive(Drop)]
+#[derive(Clone, Copy)]
 pub struct After {
     pub found: Found,
     pub counter: Counter,
 }
 
 // What one relaxation leaves to do.
-#[derive(Drop)]
+#[derive(Clone, Copy)]
 pub enum Step {
     On(Counter),
     Done(Counter),

@@ -2,6 +2,7 @@
 // They ask nothing of their caller: each tests its input first, in document 01's order, and a refused call changes nothing.
 //
 // Proved: the whole answer, and the field, are those of crate `model` (relax_call, slack_call).
+#![tactic(auto)]
 ghost use Rattle.std.specs.Prelude.{◌≡◌, List, [], ℕ, ◌*◌, ◌<◌, length};
 ghost use Rattle.model.specs.Film.{film_of};
 ghost use Rattle.model.specs.Accepted.{Limited};

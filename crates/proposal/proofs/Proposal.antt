@@ -18,15 +18,15 @@ module _ (f : Film) (start : ℕ) (p q : List ℕ) (cells : ℕ) (low taut : Boo
 
   -- where they hold, the new field stands for the old one
   pub all_hold : {exit : List ℕ} → ltb 0 cells && low && taut ≡ true → exit ≡ q → Gives (decided (accepts f start p q) f start p q) (accepted cells) exit
-  all_hold e x = rw (sym together ∙ e) (record { answer-is = ap accepted n; lent_is = x })
+  all_hold e x = rw (sym together ∙ e) (record { answer_is = ap accepted n; lent_is = x })
 
   -- where one fails, nothing changes
   pub one_fails : ltb 0 cells && low && taut ≡ false → Gives (decided (accepts f start p q) f start p q) rejected p
-  one_fails e = rw (sym together ∙ e) (record { answer-is = refl; lent_is = refl })
+  one_fails e = rw (sym together ∙ e) (record { answer_is = refl; lent_is = refl })
 
 -- the decision on the new field is that on the proposal
-pub propose-by : (f : Film) (start : ℕ) (proposal p : List ℕ) {q exit : List ℕ} {answer : ProposalAnswer} → length p ≡ size_of f
+pub propose_by : (f : Film) (start : ℕ) (proposal p : List ℕ) {q exit : List ℕ} {answer : ProposalAnswer} → length p ≡ size_of f
     → q ≡ tabulate (length p) (raised_at start proposal p) → Gives (decided (accepts f start p q) f start p q) answer exit
     → Gives (propose f start proposal p) answer exit
 unfolding propose raised_by
-propose-by f start proposal p n e g = rw (e, n) at g
+propose_by f start proposal p n e g = rw (e, n) at g

@@ -37,8 +37,8 @@ module _ {test : ℕ → Bool} {n column cells : ℕ} (C : Counted test n column
   pub counted_more : {more : ℕ} → column < n → more ≡ cond (test column) 1 0 → Counted test n (column + 1) (cells + more)
   counted_more h e = record { low = omega arith; count = omega (arith, C.count, e, count_more test column) }
 
-  pub counted-low : cells ≤ n
-  counted-low = omega (arith, C.low, C.count, count_bound test column)
+  pub counted_low : cells ≤ n
+  counted_low = omega (arith, C.low, C.count, count_bound test column)
 
   pub counted_all : n ≤ column → cells ≡ count_below test n
   counted_all h = C.count ∙ ap (count_below test) (le_antisymm C.low h)

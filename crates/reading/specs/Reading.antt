@@ -14,7 +14,7 @@ use Rattle.model.specs.declared.Tested.{Tested}
 -- a file whose fields have passed: its shape and ceiling, the thicknesses as they stand in it, and its steps
 pub record Decoded (bytes : List ℕ) (h : Head) (thicknesses : List ℕ) (steps : Steps) : Type 0 where
   pub fields : fields_check (gauged_in bytes) bytes ≡ pass
-  pub head-is : h ≡ head_of (numbers_in bytes)
+  pub head_is : h ≡ head_of (numbers_in bytes)
   pub thicknesses_are : thicknesses ≡ (numbers_in bytes).thicknesses
   pub steps_are : steps ≡ (numbers_in bytes).steps
 
@@ -25,6 +25,6 @@ pub record Weighs (bytes : List ℕ) (r : Tested) (exit : List ℕ) : Type 0 whe
 
 -- the answer and the lent buffers at exit, where the tests found c and the file's numbers are g
 pub record LoadsBy (c : Check) (g : Gauge) (weights thicknesses : List ℕ) (answer : Answer LoadAnswer) (weights' thicknesses' : List ℕ) : Type 0 where
-  pub answer-is : answer ≡ answer_by c (load_answer g)
+  pub answer_is : answer ≡ answer_by c (load_answer g)
   pub weights_are : weights' ≡ kept c (laid_over g.weights weights) weights
   pub thicknesses_are : thicknesses' ≡ kept c (laid_over g.thicknesses thicknesses) thicknesses

@@ -50,8 +50,8 @@ module _ (bad : ℕ → Bool) (number C : ℕ) where
     pub none : found row ≡ pass
 
   module _ (R : ℕ) where
-    pub rows-begin : RowsPassed R 0
-    rows-begin = record { within = omega arith; none = sym (search_passes number (λ k. k) (search_begins bad (0 * C)) (omega arith)) }
+    pub rows_begin : RowsPassed R 0
+    rows_begin = record { within = omega arith; none = sym (search_passes number (λ k. k) (search_begins bad (0 * C)) (omega arith)) }
 
     module _ {row : ℕ} (p : RowsPassed R row) where
       -- what the test of the next row asks
@@ -66,7 +66,7 @@ module _ (bad : ℕ → Bool) (number C : ℕ) where
       pub rows_next : t ≡ Fine → RowsPassed R (row + 1)
       rows_next e = record { within = omega arith; none = passed finds e }
 
-      pub rows-fail : {q : Refusal} → t ≡ Refused q → check_of (Refused q) ≡ found R
-      rows-fail e =
+      pub rows_fail : {q : Refusal} → t ≡ Refused q → check_of (Refused q) ≡ found R
+      rows_fail e =
           let l : (row + 1) * C ≤ R * C = mul-le-mul {n₁ = row + 1} {n₂ = R} (omega arith) (le_refl C) in
           search_ends bad number (λ k. k) l (sym (ap check_of e) ∙ finds)

@@ -8,8 +8,8 @@ use native.Mathlib.Omega.{arith}
 use borrow.Author.Tests.{lt-ltb, le-ltb, ltb-false}
 use Rattle.model.specs.Lists.{first_of}
 use Rattle.model.specs.Refusals.{pass, fail, fail_first}
-use Rattle.model.proofs.Lists.{first-none, first_found, first_stays, first_below}
-use Rattle.model.proofs.Checks.{fail_if-pass}
+use Rattle.model.proofs.Lists.{first_none, first_found, first_stays, first_below}
+use Rattle.model.proofs.Checks.{fail_if_pass}
 
 -- what a search of n cells knows that has come to cell i
 pub record Searched (bad : ℕ → Bool) (n i : ℕ) : Type 0 where
@@ -23,7 +23,7 @@ search_begins bad n = record { within = omega arith; none = refl }
 -- at cell i the test answers b: the search goes on, or fails at the cell's place
 module _ {bad : ℕ → Bool} {n i : ℕ} {b : Bool} (s : Searched bad n i) (h : i < n) (answer : b ≡ bad i) where
   pub search_next : b ≡ false → Searched bad n (i + 1)
-  search_next e = record { within = omega arith; none = first-none bad i s.none (sym answer ∙ e) }
+  search_next e = record { within = omega arith; none = first_none bad i s.none (sym answer ∙ e) }
 
   pub search_fails : (number : ℕ) (place : ℕ → ℕ) → b ≡ true → fail number (place i) ≡ fail_first bad n number place
   search_fails number place e = rw (first_found bad i n h s.none (sym answer ∙ e), lt-ltb i n h)
@@ -40,7 +40,7 @@ search_passes {bad} {n} {i} number place s h =
 module _ (bad : ℕ → Bool) (number : ℕ) (place : ℕ → ℕ) {k n : ℕ} (l : k ≤ n) where
   pub search_come : fail_first bad k number place ≡ pass → Searched bad n k
   search_come e =
-      record { within = l; none = le_antisymm (first_below bad k) (ltb-false (first_of bad k) k (fail_if-pass _ number _ e)) }
+      record { within = l; none = le_antisymm (first_below bad k) (ltb-false (first_of bad k) k (fail_if_pass _ number _ e)) }
 
   pub search_ends : {a b : ℕ} → fail a b ≡ fail_first bad k number place → fail a b ≡ fail_first bad n number place
   search_ends {a} {b} e =

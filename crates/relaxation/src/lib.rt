@@ -2,6 +2,7 @@
 // The counter is lent to the relaxation step, which moves it on beside the field; `stepped` lends it from a local, so that callers pass values.
 //
 // Proved: the field and the counts are those of a relaxation to what the cell requires under the film's rule, read by index.
+#![tactic(auto)]
 ghost use Rattle.std.specs.Prelude.{◌<◌, length};
 ghost use Rattle.monotone.specs.Sweep.{relax};
 ghost use Rattle.pointwise.specs.Relaxation.{Room, Stepped, Relaxes};

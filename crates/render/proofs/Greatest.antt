@@ -31,8 +31,8 @@ module _ (columns i : ℕ) {column : ℕ} (e : column ≡ i % columns) where
   pub one_further : 1 ≤ columns → (column + 1 ≡ columns → ⊥) → column + 1 ≡ (i + 1) % columns
   one_further some h = let l : column + 1 < columns = omega (arith, mod-lt i some, h) in sym (mod-eq_of_lt l) ∙ later
 
-  pub first-again : column + 1 ≡ columns → 0 ≡ (i + 1) % columns
-  first-again h = sym (ap (λ (k : ℕ). k % columns) h ∙ mod_self columns) ∙ later
+  pub first_again : column + 1 ≡ columns → 0 ≡ (i + 1) % columns
+  first_again h = sym (ap (λ (k : ℕ). k % columns) h ∙ mod_self columns) ∙ later
 
 module _ {columns : ℕ} {p : List ℕ} where
   pub peak_none : Peaked columns p 0 0 0 0

@@ -14,9 +14,9 @@ use Rattle.model.specs.CoefficientFile.{read_coefficients}
 use Rattle.model.specs.EitherFile.{tagged06, formed_by}
 use Rattle.model.specs.Report.{report_by, report_of}
 use Rattle.model.specs.ReportCall.{longest_report, report_call}
-use Rattle.model.proofs.Report.{report-fits}
+use Rattle.model.proofs.Report.{report_fits}
 use Rattle.text.specs.Writes.{Fits, Writes}
-use Rattle.text.proofs.Writes.{sets-front}
+use Rattle.text.proofs.Writes.{sets_front}
 
 module _ (bytes : List ℕ) where
   -- the tag, by the shape that stands in the file, and by whether it has weights
@@ -28,8 +28,8 @@ module _ (bytes : List ℕ) where
   chosen : (b : Bool) → tagged06 bytes ≡ b → report_of bytes ≡ report_by (cond b (read_coefficients bytes) (formed_by (read_film bytes)))
   chosen b e = ap (λ (x : Bool). report_by (cond x (read_coefficients bytes) (formed_by (read_film bytes)))) e
 
-  pub by-coefficients : tagged06 bytes ≡ true → report_of bytes ≡ report_by (read_coefficients bytes)
-  by-coefficients = chosen true
+  pub by_coefficients_lem : tagged06 bytes ≡ true → report_of bytes ≡ report_by (read_coefficients bytes)
+  by_coefficients_lem = chosen true
 
   pub by_gauge_lem : tagged06 bytes ≡ false → report_of bytes ≡ report_by (formed_by (read_film bytes))
   by_gauge_lem = chosen false
@@ -37,24 +37,24 @@ module _ (bytes : List ℕ) where
 -- the call, by what its test of the buffer finds
 module _ (bytes out : List ℕ) where
   pub short_refused : length out < longest_report → Gives (report_call bytes out) (refused 10 0) out
-  short_refused h = record { answer-is = rw (lt-ltb _ _ h); lent_is = rw (lt-ltb _ _ h) }
+  short_refused h = record { answer_is = rw (lt-ltb _ _ h); lent_is = rw (lt-ltb _ _ h) }
 
-  pub long-fits : Bytes bytes → longest_report ≤ length out → Fits (report_of bytes) out 0
-  long-fits B h = record { room = omega (arith, report-fits bytes B) }
+  pub long_fits : Bytes bytes → longest_report ≤ length out → Fits (report_of bytes) out 0
+  long_fits B h = record { room = omega (arith, report_fits bytes B) }
 
-  pub long-written : {after : List ℕ} {n : ℕ} → Bytes bytes → longest_report ≤ length out → Writes (report_of bytes) out 0 after n
+  pub long_written : {after : List ℕ} {n : ℕ} → Bytes bytes → longest_report ≤ length out → Writes (report_of bytes) out 0 after n
       → Gives (report_call bytes out) (answered n) after
-  long-written {after} {n} B h w =
-      let size : n ≡ length (report_of bytes) = omega (arith, w.next-is) in
+  long_written {after} {n} B h w =
+      let size : n ≡ length (report_of bytes) = omega (arith, w.next_is) in
       record {
-        answer-is = rw (le-ltb _ _ h) (ap answered size);
-        lent_is = rw (le-ltb _ _ h) (w.bytes_are ∙ sets-front out (report_of bytes) (omega (arith, report-fits bytes B)));
+        answer_is = rw (le-ltb _ _ h) (ap answered size);
+        lent_is = rw (le-ltb _ _ h) (w.bytes_are ∙ sets_front out (report_of bytes) (omega (arith, report_fits bytes B)));
       }
 
   -- what was written is within the buffer
-  pub written-fits : {after : List ℕ} {n : ℕ} → Bytes bytes → longest_report ≤ length out → Gives (report_call bytes out) (answered n) after
+  pub written_fits : {after : List ℕ} {n : ℕ} → Bytes bytes → longest_report ≤ length out → Gives (report_call bytes out) (answered n) after
       → n ≤ length out
-  written-fits {after} {n} B h G =
-      let told : answered n ≡ answered (length (report_of bytes)) = rw (le-ltb _ _ h) at G.answer-is in
+  written_fits {after} {n} B h G =
+      let told : answered n ≡ answered (length (report_of bytes)) = rw (le-ltb _ _ h) at G.answer_is in
       let size : n ≡ length (report_of bytes) = cc in
-      omega (arith, report-fits bytes B)
+      omega (arith, report_fits bytes B)

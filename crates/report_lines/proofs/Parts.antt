@@ -15,16 +15,16 @@ pub pair_parts : (a b : ℕ) → pair a b ≡ decimal a ++ (space ++ decimal b)
 pair_parts a b = append_assoc (decimal a) space (decimal b)
 
 -- a word or number, and the rest of a line
-pub line-parts : (a b : List ℕ) → line (a ␣ b) ≡ a ++ (space ++ line b)
-line-parts a b = append_assoc (a ++ space) b end ∙ append_assoc a space (line b)
+pub line_parts : (a b : List ℕ) → line (a ␣ b) ≡ a ++ (space ++ line b)
+line_parts a b = append_assoc (a ++ space) b end ∙ append_assoc a space (line b)
 
 pub peak_parts : (r c p : ℕ) → peak_text r c p ≡ (peak_word ++ space) ++ (pair r c ++ (space ++ (decimal p ++ end)))
-peak_parts r c p = ap (λ l. (peak_word ++ space) ++ l) (line-parts (pair r c) (decimal p))
+peak_parts r c p = ap (λ l. (peak_word ++ space) ++ l) (line_parts (pair r c) (decimal p))
 
-pub head-parts : (r c k : ℕ) → head_text r c k ≡ (film_word ++ space) ++ (pair r c ++ ((space ++ ceiling_word ++ space) ++ (decimal k ++ end)))
-head-parts r c k =
+pub head_parts : (r c k : ℕ) → head_text r c k ≡ (film_word ++ space) ++ (pair r c ++ ((space ++ ceiling_word ++ space) ++ (decimal k ++ end)))
+head_parts r c k =
     let rest = ceiling_word ␣ decimal k in
     let a = decimal r ++ space in
     ap (λ l. (film_word ++ space) ++ line l)
     (sym (append_assoc a (decimal c ++ space) rest) ∙ ap (λ l. l ++ rest) (sym (append_assoc a (decimal c) space)))
-    ∙ ap (λ l. (film_word ++ space) ++ l) (line-parts (pair r c) rest)
+    ∙ ap (λ l. (film_word ++ space) ++ l) (line_parts (pair r c) rest)

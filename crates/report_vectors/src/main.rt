@@ -2,6 +2,7 @@
 // expected report in turn; both stand in data/.
 //
 // data/, args and stdout are written by the test oracle (tests/oracle), which was made from document 01 alone and shares nothing with Film.
+#![tactic(auto)]
 ghost use Rattle.std.specs.Prelude.{◌≤◌, length};
 ghost use Rattle.model.specs.ReportCall.{longest_report};
 

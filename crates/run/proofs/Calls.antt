@@ -29,7 +29,7 @@ module _ (f : Film) where
         → Gives (unrefused (ended (theory.sweep (rule (bare f)) (ordering f order) budget (theory.begin q)) accepted)) a exit
         → Gives (run_call f budget order on p) a exit
     unfolding run neighbours beside across
-    run_passed accepted q e R G = rw e (rw (R.accepted-is, R.field_is) at G)
+    run_passed accepted q e R G = rw e (rw (R.accepted_is, R.field_is) at G)
 
-    pub run-refused : {number place : ℕ} → run_check f p order ≡ fail number place → Gives (run_call f budget order on p) (refused number place) p
-    run-refused e = record { answer-is = rw e; lent_is = rw e }
+    pub run_refused : {number place : ℕ} → run_check f p order ≡ fail number place → Gives (run_call f budget order on p) (refused number place) p
+    run_refused e = record { answer_is = rw e; lent_is = rw e }

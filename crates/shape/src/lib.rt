@@ -2,6 +2,7 @@
 // the weights beside it pull (weights.rt). Internal: all that counts a film's numbers, or goes over them row by row, asks here.
 //
 // Rows and columns run from 1; a cell's index runs from 0, by rows.
+#![tactic(auto)]
 ghost use Rattle.std.specs.Prelude.{◌≡◌, ◌+◌, ◌-◌, ◌*◌, ◌≤◌, ◌<◌};
 
 use model::Head;

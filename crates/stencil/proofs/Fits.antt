@@ -37,16 +37,16 @@ module _ (a b : ℕ) (h : a < 256) (k : b < 256) where
   pub square_low : (a + b) * (a + b) ≤ 510 * 510
   square_low = mul-le-mul sum_low sum_low
 
-  pub cube-low : (a + b) * (a + b) * (a + b) ≤ 510 * 510 * 510
-  cube-low = mul-le-mul square_low sum_low
+  pub cube_low : (a + b) * (a + b) * (a + b) ≤ 510 * 510 * 510
+  cube_low = mul-le-mul square_low sum_low
 
   pub link_low : (f : ℕ) → f ≤ step_limit → link_of f a b ≤ step_limit * (510 * 510 * 510)
-  link_low f l = mul-le-mul l cube-low
+  link_low f l = mul-le-mul l cube_low
 
 -- with factors 1 and 1 the links are the cubes
-pub plain-links : (a : Around) (f : Factors) → f.along ≡ 1 → f.across ≡ 1
+pub plain_links : (a : Around) (f : Factors) → f.along ≡ 1 → f.across ≡ 1
     → links_by (cubed a.own a.left) (cubed a.own a.right) (cubed a.own a.down) (cubed a.own a.up) ≡ links_of a f
-plain-links a f along across =
+plain_links a f along across =
     λ k. links_by (one along a.left k) (one along a.right k) (one across a.down k) (one across a.up k)
   where
     one : {f : ℕ} → f ≡ 1 → (b : ℕ) → cubed a.own b ≡ link_of f a.own b
@@ -62,13 +62,13 @@ abs_low (pos n) f = omega (arith, f.sfits)
 abs_low (negsuc n) f = omega (arith, f.sfits)
 
 module _ (next last : ℕ) (h : next < 256) (k : last < 256) where
-  gain-low : nat_abs (pos next -ℤ pos last) ≤ 255
-  gain-low = abs_sub next last 255 (omega arith) (omega arith)
+  gain_low : nat_abs (pos next -ℤ pos last) ≤ 255
+  gain_low = abs_sub next last 255 (omega arith) (omega arith)
 
-  pub gain-fits : SFits w64 (pos next -ℤ pos last)
-  gain-fits = record { sfits = omega (arith, mag_low (pos next -ℤ pos last), gain-low) }
+  pub gain_fits : SFits w64 (pos next -ℤ pos last)
+  gain_fits = record { sfits = omega (arith, mag_low (pos next -ℤ pos last), gain_low) }
 
   pub source_fits : (wedge : ℤ) → SFits w32 wedge → SFits w64 (source_of wedge next last)
   source_fits wedge f =
-      let m : nat_abs wedge * nat_abs (pos next -ℤ pos last) ≤ 2 ^ 31 * 255 = mul-le-mul (abs_low wedge f) gain-low in
+      let m : nat_abs wedge * nat_abs (pos next -ℤ pos last) ≤ 2 ^ 31 * 255 = mul-le-mul (abs_low wedge f) gain_low in
       record { sfits = omega (arith, mag_low (source_of wedge next last), abs_mul wedge (pos next -ℤ pos last)) }

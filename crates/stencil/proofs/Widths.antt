@@ -2,11 +2,11 @@
 -- is a local with a type, and a constant has the width of the local that it is worked with. The link routine has no length and no index, and no pointer, float or enum, so that none is let through.
 use mathlib.Core.Path.{◌≡◌}
 use mathlib.Core.Bool.{Bool, true, false, ◌&&◌}
-use mathlib.Core.List.{List, [], ◌∷◌, map}
+use mathlib.Core.List.{List, [], ◌∷◌}
 use lib.Dec.{leb}
-use mir.Syntax.{Name, Ty, ty_int, ty_bool, ty_float, ty_ptr, ty_ref, ty_array, ty_unit, ty_struct, ty_enum, ty_named, Tys, tnil, tcons, Local, local, Fn}
+use mir.Syntax.{Ty, ty_int, ty_bool, ty_float, ty_ptr, ty_ref, ty_array, ty_unit, ty_struct, ty_enum, ty_param, ty_const, ty_array_p, ty_named, Tys, tnil, tcons, Local, local, Fn}
 use mir.Val.{bits}
-use prog.Routine.{Routine}
+use prog.Wired.{Code, node, threads, Codes, end, and, Members}
 
 abbrev mutual
   narrow : Ty → Bool
@@ -19,7 +19,10 @@ abbrev mutual
   narrow ty_unit = true
   narrow (ty_struct s τs) = all_narrow τs
   narrow (ty_enum s τss) = false
-  narrow (ty_named h) = false
+  narrow (ty_param n) = false
+  narrow (ty_const n) = false
+  narrow (ty_array_p τ n) = false
+  narrow (ty_named h τs) = false
 
   all_narrow : Tys → Bool
   all_narrow tnil = true
@@ -29,6 +32,15 @@ abbrev narrow_locals : List Local → Bool
 narrow_locals [] = true
 narrow_locals (local τ h ∷ ls) = narrow τ && narrow_locals ls
 
--- every number in the function has 32 bits or fewer, and these are all others that it can call: the names of its table of calls
-abbrev pub Narrow : Fn → List (Name × Routine) → List Name → Type 0
-Narrow f calls names = (narrow_locals f.locals ≡ true) × (map (λ (c : Name × Routine). c.0) calls ≡ names)
+abbrev narrow_members : Members → Bool
+narrow_members [] = true
+narrow_members (m ∷ ms) = narrow_locals m.1.locals && narrow_members ms
+
+abbrev below : Codes → List Code
+below end = []
+below (and c cs) = c ∷ below cs
+
+-- every number in a function's code has 32 bits or fewer, it calls no foreign routine, and these are all others that it can call: the code that stands below its own
+abbrev pub Narrow : Code → List Code → Type 0
+Narrow (node ms fs cs) called = (narrow_members ms ≡ true) × (fs ≡ []) × (below cs ≡ called)
+Narrow threads called = false ≡ true

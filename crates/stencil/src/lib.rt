@@ -3,6 +3,7 @@
 //
 // Proved: each number is document 01's (crate `model`: Coefficients), and fits its type whatever thicknesses of 8 bits and wedge number of 32 it is made of,
 // with factors within their limits. What `links_of` and its callees work with has 32 bits or fewer, by their MIR (proofs/Widths).
+#![tactic(auto)]
 ghost use Rattle.std.specs.Prelude.{◌≡◌, cond, ◌+◌, ◌*◌, ◌≤◌};
 ghost use Rattle.model.specs.Gauge.{factors_of, Stepped};
 ghost use Rattle.stencil.specs.Cell.{links_by, links_of, source_of, coefficients_of};
@@ -10,7 +11,7 @@ ghost use Rattle.stencil.specs.Cell.{links_by, links_of, source_of, coefficients
 use model::{Factors, Steps};
 
 // The thicknesses of a cell and of the four beside it, those of the boundary ring too.
-#[derive(Drop)]
+#[derive(Clone, Copy)]
 pub struct Around {
     pub own: u8,
     pub left: u8,
@@ -20,7 +21,7 @@ pub struct Around {
 }
 
 // The links of a cell to the four beside it, those to the ring too, and their sum.
-#[derive(Drop)]
+#[derive(Clone, Copy)]
 pub struct Links {
     pub left: u32,
     pub right: u32,
@@ -29,7 +30,7 @@ pub struct Links {
     pub sum: u32,
 }
 
-#[derive(Drop)]
+#[derive(Clone, Copy)]
 pub struct Coefficients {
     pub diagonal: u32,
     pub right: u32,

@@ -14,7 +14,7 @@ use Rattle.model.specs.Film.{Film, right_at, weight_at}
 use Rattle.model.specs.Margin.{margin}
 use Rattle.model.specs.Estimate.{float_of, is_broken, substitute, whole_part, eliminated, solved, estimate_at, estimate}
 use Rattle.model.specs.Estimate as paper
-use Rattle.model.proofs.Lists.{tabulate-is, tabulate-at, tabulate-length}
+use Rattle.model.proofs.Lists.{tabulate_is, tabulate_at, tabulate_length}
 use Rattle.substitution.specs.Line.{solution_of, OfLine, Substituted}
 use Rattle.chain.specs.Line.{recall}
 use Rattle.elimination.specs.Line.{Eliminated}
@@ -24,10 +24,10 @@ use Rattle.elimination.proofs.Forward.{recalled_is}
 
 module _ (f : Film) (p : List ℕ) (start : ℕ) where
   -- the solution in column j, from that in the column after it
-  solved-at : (j n : ℕ) → n + suc j ≡ f.columns
+  solved_at : (j n : ℕ) → n + suc j ≡ f.columns
       → solved f p start (suc n) ≡ substitute (eliminated f p start (suc j)) (float_of (right_at f (start + j))) (solved f p start n)
   unfolding solved
-  solved-at j n e =
+  solved_at j n e =
       let a : f.columns - n ≡ suc j = omega arith in
       let b : f.columns - suc n ≡ j = omega arith in
       rw (a, b)
@@ -39,14 +39,14 @@ module _ (f : Film) (p : List ℕ) (start : ℕ) where
   -- The columns from j on are written, for a given film and field.
   pub record Returning (j : ℕ) (proposal : List ℕ) (next : Solution) : Type 0 where
     pub low : j ≤ f.columns
-    pub next-is : solution_of next ≡ solved f p start (f.columns - j)
+    pub next_is : solution_of next ≡ solved f p start (f.columns - j)
     pub written : (k : ℕ) → j ≤ k → k < f.columns → get_or proposal k 0 ≡ proposed_at k
 
   return_begin : (proposal : List ℕ) → Returning f.columns proposal solutions.Inactive
   unfolding solved
   return_begin proposal =
       let z : f.columns - f.columns ≡ 0 = omega arith in
-      record { low = omega arith; next-is = rw z; written = λ k h l. absurd (omega arith) }
+      record { low = omega arith; next_is = rw z; written = λ k h l. absurd (omega arith) }
 
   -- one column more
   return_next : {j : ℕ} {proposal : List ℕ} {next here : Solution} {v : ℕ} {pivots sides : List Float}
@@ -60,10 +60,10 @@ module _ (f : Film) (p : List ℕ) (start : ℕ) where
       let n = f.columns - j in
       let m : f.columns - i ≡ suc n = omega (arith, R.low) in
       let r = recalled_is f p start E i (omega (arith, R.low)) in
-      let e : solution_of here ≡ solved f p start (f.columns - i) = rw (s, r, R.next-is, m, solved-at i n (omega (arith, R.low))) in
+      let e : solution_of here ≡ solved f p start (f.columns - i) = rw (s, r, R.next_is, m, solved_at i n (omega (arith, R.low))) in
       record {
         low = omega (arith, R.low);
-        next-is = e;
+        next_is = e;
         written = λ k c d. elim (dec_lt i k) [
           | yes a ↦ get_or-set_other proposal i k v 0 (λ z. omega arith) ∙ R.written k (omega arith) d
           | no a ↦
@@ -80,17 +80,17 @@ module _ (f : Film) (p : List ℕ) (start : ℕ) where
       → is_broken (eliminated f p start f.columns) ≡ false → proposal ≡ estimate f p start
   unfolding estimate
   return_done {proposal} R l u =
-      tabulate-is f.columns (estimate_at f p start) 0 proposal (sym l) (λ i h. R.written i (omega arith) h ∙ sym (shown i))
+      tabulate_is f.columns (estimate_at f p start) 0 proposal (sym l) (λ i h. R.written i (omega arith) h ∙ sym (shown i))
     where
       shown : (i : ℕ) → estimate_at f p start i ≡ proposed_at i
       shown i = rw u
 
   -- a broken line offers zeros
-  pub broken-zeros : is_broken (eliminated f p start f.columns) ≡ true → tabulate f.columns (λ j. 0) ≡ estimate f p start
+  pub broken_zeros : is_broken (eliminated f p start f.columns) ≡ true → tabulate f.columns (λ j. 0) ≡ estimate f p start
   unfolding estimate
-  broken-zeros u =
-      tabulate-is f.columns (estimate_at f p start) 0 (tabulate f.columns (λ j. 0)) (tabulate-length _ _)
-      (λ i h. tabulate-at f.columns (λ j. 0) 0 i h ∙ sym (none i))
+  broken_zeros u =
+      tabulate_is f.columns (estimate_at f p start) 0 (tabulate f.columns (λ j. 0)) (tabulate_length _ _)
+      (λ i h. tabulate_at f.columns (λ j. 0) 0 i h ∙ sym (none i))
     where
       none : (i : ℕ) → estimate_at f p start i ≡ 0
       none i = rw u
@@ -119,7 +119,7 @@ module _ (weights rights : List ℕ) (pivots sides : List Float) (start k : ℕ)
         goes = λ f p O e.
             return_next f p start (S.goes f p O e) b (e ∙ sym S.len) O.steps_are
             (rw (O.rights_are, ← l, ← r) s)
-            (rw (O.margin-is, O.weights_are, ← w) o);
+            (rw (O.margin_is, O.weights_are, ← w) o);
       }
 
   pub substituting_done : {n : ℕ} {proposal : List ℕ} {next : Solution} → Substituting n 0 proposal next

@@ -16,7 +16,7 @@ solution_of (solutions.Value p) = paper.value p
 pub record OfLine (f : Film) (p : List ℕ) (weights rights : List ℕ) (pivots sides : List Float) (start margin : ℕ) : Type 0 where
   pub weights_are : f.weights ≡ weights
   pub rights_are : f.rights ≡ rights
-  pub margin-is : margin_of f ≡ margin
+  pub margin_is : margin_of f ≡ margin
   pub steps_are : Eliminated f p start false pivots sides
 
 -- the proposal is the estimate of whatever film and field that is

@@ -2,6 +2,7 @@
 // is left of that below the margin. Internal: the estimate of a line calls it.
 //
 // Proved: the numbers are document 01's estimate of the line, float by float in the order of its text (crate `model`: Estimate).
+#![tactic(auto)]
 ghost use Rattle.std.specs.Prelude.{◌≡◌, ◌+◌, ◌-◌, ◌*◌, ◌≤◌, length};
 ghost use Rattle.model.specs.Estimate.{substitute as substitute_of, whole_part};
 ghost use Rattle.chain.specs.Line.{elimination_of, recall};
@@ -10,7 +11,7 @@ ghost use Rattle.substitution.specs.Line.{solution_of, Substituted};
 use chain::Elimination;
 
 // The solution in a cell, as the way back finds it.
-#[derive(Drop)]
+#[derive(Clone, Copy)]
 pub enum Solution {
     Inactive,
     Value(f64),

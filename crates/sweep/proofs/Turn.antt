@@ -10,7 +10,7 @@ use lib.IntN.{ℤ}
 use lib.ListN.{length, get_or, length-set}
 use Rattle.monotone.specs.Rule.{Rule}
 use Rattle.monotone.specs.Sweep as theory
-use Rattle.monotone.proofs.Sweep.{Seen, was-quiet, was_raise, was_exceed, see}
+use Rattle.monotone.proofs.Sweep.{Seen, was_quiet, was_raise, was_exceed, see}
 use Rattle.monotone.proofs.Steps.{Going, going_begin, going_stopped, going_quiet, going_done, going_raise, going_over}
 use Rattle.grid.specs.Pull.{Aligned}
 use Rattle.pointwise.specs.Relaxation.{Room, kind_of, field_after, count_after, Relaxes}
@@ -37,16 +37,16 @@ loaded_long q e L =
     record {
       right = record { len = L.right.len ∙ sym e; small = L.right.small };
       up = record { len = L.up.len ∙ sym e; small = L.up.small };
-      diagonals-len = L.diagonals-len ∙ sym e;
-      sources-len = L.sources-len ∙ sym e;
-      columns-low = L.columns-low;
+      diagonals_len = L.diagonals_len ∙ sym e;
+      sources_len = L.sources_len ∙ sym e;
+      columns_low = L.columns_low;
       cell = λ i h. L.cell i (rw e at h);
     }
 
-field-length : (k : theory.Relaxation) (p : List ℕ) (i v : ℕ) → length (field_after k p i v) ≡ length p
-field-length theory.quiet p i v = refl
-field-length theory.raise p i v = length-set p i v
-field-length theory.exceed p i v = refl
+field_length : (k : theory.Relaxation) (p : List ℕ) (i v : ℕ) → length (field_after k p i v) ≡ length p
+field_length theory.quiet p i v = refl
+field_length theory.raise p i v = length-set p i v
+field_length theory.exceed p i v = refl
 
 abbrev none : Counter
 none = record { visits = 0; raises = 0; quiet = 0 }
@@ -72,7 +72,7 @@ module _ (table : List ℕ) (ceiling : ℕ) (required : List ℕ → ℕ → ℕ
     running_place = R.going.inside
 
     pub running_room : budget < 18446744073709551616 → c.visits < budget → Room c
-    running_room b h = record { visits-low = omega arith; raises-low = R.going.some; quiet-low = R.going.calm }
+    running_room b h = record { visits_low = omega arith; raises_low = R.going.some; quiet_low = R.going.calm }
 
     pub running_stopped : budget ≤ c.visits → Ends rule table budget p₀ (ends.Stopped c) p
     running_stopped h = ends_by (ends.Stopped c) (state_of p c place) (going_stopped (state_of p c place) R.going h) refl refl
@@ -103,10 +103,10 @@ module _ (table : List ℕ) (ceiling : ℕ) (required : List ℕ → ℕ → ℕ
 
       leads_by : (k : theory.Relaxation) → Seen ceiling (required p cell) (get_or p cell 0) k
           → Leads (judge_by k (length table) cell (count_after k c)) (after k)
-      leads_by theory.quiet (was-quiet h) = closes (eqb (c.quiet + 1) (length table)) refl h
+      leads_by theory.quiet (was_quiet h) = closes (eqb (c.quiet + 1) (length table)) refl h
       leads_by theory.raise (was_raise h b) =
           record {
-            long = field-length theory.raise p cell (required p cell) ∙ R.long;
+            long = field_length theory.raise p cell (required p cell) ∙ R.long;
             going = going_raise (state_of p c place) R.going l h b;
           }
       leads_by theory.exceed (was_exceed h b) =
@@ -143,4 +143,4 @@ module _ (table : List ℕ) (ceiling : ℕ) (required : List ℕ → ℕ → ℕ
     running_listed L = record { len = L.len ∙ sym R.long; cells = λ k h. rw R.long (L.cells k h) }
 
     pub advanced_long : (r : Step) (exit : List ℕ) → Advanced rule table p place c r exit → length exit ≡ length p₀
-    advanced_long r exit A = rw A.field (field-length (found_at rule table p place c) p (order_in table place) (required p (order_in table place)) ∙ R.long)
+    advanced_long r exit A = rw A.field (field_length (found_at rule table p place c) p (order_in table place) (required p (order_in table place)) ∙ R.long)

@@ -2,6 +2,7 @@
 // Internal: the public calls of Film test their inputs and call it.
 //
 // Proved: the answer, its counts and the field are those of the theory's sweep under the film's rule, read by index.
+#![tactic(auto)]
 ghost use Rattle.std.specs.Prelude.{◌≡◌, ◌<◌, length};
 ghost use Rattle.grid.specs.Pull.{Aligned};
 ghost use Rattle.pointwise.specs.Relaxation.{Room};
@@ -11,7 +12,7 @@ ghost use Rattle.sweep.specs.Sweep.{Listed, Advanced, Ends};
 use pointwise::{Counter, Step};
 
 // How a sweep ends.
-#[derive(Drop)]
+#[derive(Clone, Copy)]
 pub enum Swept {
     Done(Counter),
     Stopped(Counter),

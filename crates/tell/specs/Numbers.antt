@@ -11,11 +11,11 @@ use Rattle.told.specs.Refused.{Told, value_in}
 
 pub record SlackTold (answer : Answer ℤ) (slack : ℤ) (place number : ℕ) (slack' : ℤ) (place' : ℕ) : Type 0 where
   pub told : Told (refusal_in answer) place number place'
-  pub slack-is : slack' ≡ value_in answer slack
+  pub slack_is : slack' ≡ value_in answer slack
 
 pub record MarginTold (answer : Answer ℕ) (margin place number margin' place' : ℕ) : Type 0 where
   pub told : Told (refusal_in answer) place number place'
-  pub margin-is : margin' ≡ value_in answer margin
+  pub margin_is : margin' ≡ value_in answer margin
 
 -- 0 quiet, 1 raised, 2 over; and the pressure that the cell was raised to. The cell of Over is the call's own.
 abbrev pub relax_numbers : Answer RelaxAnswer → List ℕ → List ℕ
@@ -57,4 +57,4 @@ over_cell (refused number place) old = old
 pub record RunTold (answer : Answer RunAnswer) (result : List ℕ) (cell place number : ℕ) (result' : List ℕ) (cell' place' : ℕ) : Type 0 where
   pub told : Told (refusal_in answer) place number place'
   pub result_is : result' ≡ run_numbers answer result
-  pub cell-is : cell' ≡ over_cell answer cell
+  pub cell_is : cell' ≡ over_cell answer cell

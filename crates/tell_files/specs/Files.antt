@@ -10,7 +10,7 @@ use Rattle.told.specs.Refused.{Told, value_in}
 
 pub record ReportTold (answer : Answer ℕ) (length place number length' place' : ℕ) : Type 0 where
   pub told : Told (refusal_in answer) place number place'
-  pub length-is : length' ≡ value_in answer length
+  pub length_is : length' ≡ value_in answer length
 
 -- rows, columns, ceiling
 abbrev pub head_numbers : Answer LoadAnswer → List ℕ → List ℕ
@@ -33,8 +33,8 @@ steps_in (refused number place) old = old
 pub record LoadTold (answer : Answer LoadAnswer) (head : List ℕ) (wedge : ℤ) (steps : List ℕ) (place number : ℕ) (head' : List ℕ) (wedge' : ℤ) (steps' : List ℕ) (place' : ℕ)
     : Type 0 where
   pub told : Told (refusal_in answer) place number place'
-  pub head-is : head' ≡ head_numbers answer head
-  pub wedge-is : wedge' ≡ wedge_number answer wedge
+  pub head_is : head' ≡ head_numbers answer head
+  pub wedge_is : wedge' ≡ wedge_number answer wedge
   pub steps_are : steps' ≡ steps_in answer steps
 
 -- of a coefficient film the head alone
@@ -44,4 +44,4 @@ head_in (refused number place) old = old
 
 pub record HeadTold (answer : Answer Head) (head : List ℕ) (place number : ℕ) (head' : List ℕ) (place' : ℕ) : Type 0 where
   pub told : Told (refusal_in answer) place number place'
-  pub head-is : head' ≡ head_in answer head
+  pub head_is : head' ≡ head_in answer head

@@ -21,37 +21,37 @@ module _ {A : Type 0} where
   sets_append l [] ys i place e = ap (λ k. sets l k ys) (sym (e ∙ add-zero i))
   sets_append l (x ∷ xs) ys i place e = sets_append (set l i x) xs ys (suc i) place (omega arith)
 
-  pub sets-next : (l xs ys : List A) (i place : ℕ) {m k : List A} → m ≡ sets l i xs → k ≡ sets m place ys → place ≡ i + length xs
+  pub sets_next : (l xs ys : List A) (i place : ℕ) {m k : List A} → m ≡ sets l i xs → k ≡ sets m place ys → place ≡ i + length xs
       → k ≡ sets l i (xs ++ ys)
-  sets-next l xs ys i place e f p = f ∙ ap (λ (r : List A). sets r place ys) e ∙ sym (sets_append l xs ys i place p)
+  sets_next l xs ys i place e f p = f ∙ ap (λ (r : List A). sets r place ys) e ∙ sym (sets_append l xs ys i place p)
 
 -- the slice is as long as before
-pub writes-length : {text before after : List ℕ} {at next : ℕ} → Writes text before at after next → length after ≡ length before
-writes-length {text} {before} {after} {at} w = ap length w.bytes_are ∙ length-sets before at text
+pub writes_length : {text before after : List ℕ} {at next : ℕ} → Writes text before at after next → length after ≡ length before
+writes_length {text} {before} {after} {at} w = ap length w.bytes_are ∙ length-sets before at text
 
 -- a text that fits has room for its first part, and for the rest after that
-pub fits-first : (a b : List ℕ) {out : List ℕ} {at : ℕ} → Fits (a ++ b) out at → Fits a out at
-fits-first a b f = record { room = omega (arith, f.room, length-append a b) }
+pub fits_first : (a b : List ℕ) {out : List ℕ} {at : ℕ} → Fits (a ++ b) out at → Fits a out at
+fits_first a b f = record { room = omega (arith, f.room, length-append a b) }
 
-pub fits-rest : (a b : List ℕ) {out after : List ℕ} {at next : ℕ} → Fits (a ++ b) out at → Writes a out at after next → Fits b after next
-fits-rest a b {out} {after} {at} {next} f w =
-    record { room = omega (arith, f.room, length-append a b, w.next-is, writes-length w) }
+pub fits_rest : (a b : List ℕ) {out after : List ℕ} {at next : ℕ} → Fits (a ++ b) out at → Writes a out at after next → Fits b after next
+fits_rest a b {out} {after} {at} {next} f w =
+    record { room = omega (arith, f.room, length-append a b, w.next_is, writes_length w) }
 
 -- both are written by writing the one and then the other
 pub writes_then : {a b out middle after : List ℕ} {at between next : ℕ} → Writes a out at middle between → Writes b middle between after next
     → Writes (a ++ b) out at after next
 writes_then {a} {b} {out} {middle} {after} {at} {between} {next} v w =
     record {
-      bytes_are = sets-next out a b at between v.bytes_are w.bytes_are v.next-is;
-      next-is = omega (arith, v.next-is, w.next-is, length-append a b);
+      bytes_are = sets_next out a b at between v.bytes_are w.bytes_are v.next_is;
+      next_is = omega (arith, v.next_is, w.next_is, length-append a b);
     }
 
 -- from the start on, and over the whole slice
-pub sets-front : {A : Type 0} (l xs : List A) → length xs ≤ length l → sets l 0 xs ≡ xs ++ drop (length xs) l
-sets-front l xs h = sets-eq xs l 0 (omega arith) ∙ simp zero-add
+pub sets_front : {A : Type 0} (l xs : List A) → length xs ≤ length l → sets l 0 xs ≡ xs ++ drop (length xs) l
+sets_front l xs h = sets-eq xs l 0 (omega arith) ∙ simp zero-add
 
-pub sets-whole : (l xs : List ℕ) → length xs ≡ length l → sets l 0 xs ≡ xs
-sets-whole l xs e = sets-front l xs (omega arith) ∙ rw (e, drop-length l, append-nil)
+pub sets_whole : (l xs : List ℕ) → length xs ≡ length l → sets l 0 xs ≡ xs
+sets_whole l xs e = sets_front l xs (omega arith) ∙ rw (e, drop-length l, append-nil)
 
 -- A loop that writes a list's numbers, as bytes or as they are: those of the first i are written.
 pub record Put {A B : Type 0} (bytes : List A → List B) (source : List A) (at : ℕ) (before : List B) (i : ℕ) (after : List B) : Type 0 where
@@ -73,7 +73,7 @@ module _ {A B : Type 0} {bytes : List A → List B} {source : List A} {at : ℕ}
       let more : take (i + 1) source ≡ take i source ++ get_or source i d ∷ [] = rw add-one (take-suc source i d h) in
       record {
         within = omega arith;
-        done = sets-next before (bytes (take i source)) new at place p.done n e ∙ ap (sets before at) (sym b ∙ ap bytes (sym more));
+        done = sets_next before (bytes (take i source)) new at place p.done n e ∙ ap (sets before at) (sym b ∙ ap bytes (sym more));
         len = ap length n ∙ length-sets after place new ∙ p.len;
       }
 

@@ -8,4 +8,4 @@ pub record Fits (text out : List ℕ) (at : ℕ) : Type 0 where
 -- from `at` on, with `next` the place after it
 pub record Writes (text before : List ℕ) (at : ℕ) (after : List ℕ) (next : ℕ) : Type 0 where
   pub bytes_are : after ≡ sets before at text
-  pub next-is : next ≡ at + length text
+  pub next_is : next ≡ at + length text

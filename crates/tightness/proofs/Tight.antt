@@ -15,7 +15,7 @@ use Rattle.model.specs.Proposal.{rises}
 use Rattle.model.specs.declared.Head.{Head}
 use Rattle.cell.specs.declared.Cell.{Cell}
 use Rattle.grid.specs.Pull.{cell_by}
-use Rattle.grid.proofs.Limited.{cell-is}
+use Rattle.grid.proofs.Limited.{cell_is}
 
 -- at most 0 is below 1
 below_one : (z : ℤ) → lt_z z (pos 1) ≡ at_most_zero z
@@ -35,4 +35,4 @@ module _ (h : Head) (diagonals rights ups : List ℕ) (sources : List ℤ) (p q 
       → z ≡ slack_of cell.diagonal cell.pull cell.source (get_or q i 0)
       → lt_z z (pos 1) ≡ (not (rises p q i) || at_most_zero (slack (film_of h [] diagonals rights ups sources) q i))
   unfolding beside across neighbours
-  rises_by w cell z L b l e s = rw (lt-ltb _ _ l, s, e, cell-is L q i b) (below_one (slack (film_of h w diagonals rights ups sources) q i))
+  rises_by w cell z L b l e s = rw (lt-ltb _ _ l, s, e, cell_is L q i b) (below_one (slack (film_of h w diagonals rights ups sources) q i))

@@ -11,8 +11,8 @@ use Rattle.model.specs.Refusals.{fail_first}
 use Rattle.model.specs.Checks.{outside}
 use Rattle.model.specs.Bytes.{byte_at}
 use Rattle.model.specs.File.{thicknesses_from}
-use Rattle.model.proofs.Lists.{tabulate-is}
-use Rattle.model.proofs.Checks.{fail_first-same}
+use Rattle.model.proofs.Lists.{tabulate_is}
+use Rattle.model.proofs.Checks.{fail_first_same}
 
 -- t bytes from an offset on
 module _ (l : List ℕ) (at t : ℕ) (h : at + t ≤ length l) where
@@ -29,8 +29,8 @@ module _ (l : List ℕ) (at t : ℕ) (h : at + t ≤ length l) where
   part_at j b = get_or-take (at + t - at) (drop at l) j 0 (omega arith) ∙ get_or-drop at l j 0
 
   pub part_is : part ≡ tabulate t (λ j. byte_at l (at + j))
-  part_is = tabulate-is t (λ j. byte_at l (at + j)) 0 part part_length part_at
+  part_is = tabulate_is t (λ j. byte_at l (at + j)) 0 part part_length part_at
 
   -- they are tested alike as a slice and where they stand
   pub part_tested : fail_first (λ j. outside (get_or part j 0) 1 thickness_limit) (length part) 7 (λ j. at + j) ≡ thicknesses_from (λ j. byte_at l (at + j)) t at
-  part_tested = rw part_length (fail_first-same _ _ t 7 (λ j. at + j) (λ j b. ap (λ x. outside x 1 thickness_limit) (part_at j b)))
+  part_tested = rw part_length (fail_first_same _ _ t 7 (λ j. at + j) (λ j b. ap (λ x. outside x 1 thickness_limit) (part_at j b)))

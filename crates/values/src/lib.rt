@@ -1,6 +1,7 @@
 // The values of a field's body, tested where they stand in a film file. Internal: the test of a field calls these, once the whole body is there.
 //
 // Proved: what each finds is what crate `model` says of the numbers at that offset, at every offset of every file.
+#![tactic(auto)]
 ghost use Rattle.std.specs.Prelude.{◌≡◌, ◌+◌, ◌*◌, ◌≤◌, length};
 ghost use Rattle.model.specs.Refusals.{check_of};
 ghost use Rattle.model.specs.Checks.{shape_check, ceiling_check};

@@ -50,13 +50,13 @@ module _ (l : List ℕ) (n t last : ℕ) where
   skipped : (f : Field) (fs : List Field) (tag byte : ℕ) → (eqb byte f.tag && ltb tag f.tag) ≡ false → next_optional (f ∷ fs) tag byte ≡ next_optional fs tag byte
   skipped f fs tag byte e = ap (λ b. cond b byte (next_optional fs tag byte)) e
 
-  and-false : (a : Bool) → (a && false) ≡ false
-  and-false true = refl
-  and-false false = refl
+  and_false : (a : Bool) → (a && false) ≡ false
+  and_false true = refl
+  and_false false = refl
 
   behind_it : (f : Field) (fs : List Field) (k byte : ℕ) → f.tag ≤ k → next_optional (f ∷ fs) k byte ≡ next_optional fs k byte
   behind_it f fs k byte h =
-      skipped f fs k byte (ap (λ b. eqb byte f.tag && b) (le-ltb k f.tag h) ∙ and-false (eqb byte f.tag))
+      skipped f fs k byte (ap (λ b. eqb byte f.tag && b) (le-ltb k f.tag h) ∙ and_false (eqb byte f.tag))
 
   -- Of a list whose tags rise from above `low` on, those that stand in the file follow a tag up to `low`, if the walk chooses among them.
   follow_optional : (fs : List Field) (low tag at : ℕ) → Rising low fs → Named fs → tag ≤ low
@@ -103,7 +103,7 @@ module _ (l : List ℕ) (n t last : ℕ) where
   -- the film's sides are small, so no field stands far from the start
   module _ (few : (n ≤ 65025) × (t ≤ 66049) × Last last) {tag at : ℕ} (o : On tag at) where
     pub room : Room at n t
-    room = record { at_low = omega (arith, o.near, o.high); cells-few = few.0; ring_few = few.1 }
+    room = record { at_low = omega (arith, o.near, o.high); cells_few = few.0; ring_few = few.1 }
 
     abbrev f : Field
     f = field_for l tag n t
@@ -183,8 +183,8 @@ module _ (l : List ℕ) (n t : ℕ) where
         end = ap (λ fs. fields_end fs 0) e;
       }
 
-  gauged-first : On l n t 5 1 0
-  gauged-first =
+  gauged_first : On l n t 5 1 0
+  gauged_first =
       let end : ℕ = fields_end (gauged (carried l n) t) 0 in
       let optional : Follow l n t 5 5 end (present gauged_optional (parts_in gauged_optional l end)) =
       follow_optional l n t 5 gauged_optional 5 5 end (omega arith, tt) ((refl, omega arith), tt) (omega arith) refl
@@ -195,11 +195,11 @@ module _ (l : List ℕ) (n t : ℕ) where
         ((omega arith, omega arith), (refl, refl), ((omega arith, omega arith), (refl, refl), ((omega arith, omega arith), (refl, refl), optional))),
       )
 
-  coefficients-first : On l n t 9 1 0
-  coefficients-first =
+  coefficients_first : On l n t 9 1 0
+  coefficients_first =
       first 9 (ceiling_field ∷ weights_field (carried l n) ∷ diagonals_field n ∷ rights_field n ∷ ups_field n ∷ sources_field n ∷ []) refl
       ((omega arith, omega arith), (refl, refl), ((omega arith, omega arith), (refl, refl), ((omega arith, omega arith), (refl, refl), ((omega arith, omega arith), (refl, refl), ((omega arith, omega arith), (refl, refl), ((omega arith, omega arith), (refl, refl), refl))))))
 
   pub begins : {last : ℕ} → Last last → On l n t last 1 0
   begins =
-      ⊎_elim (λ e. subst (λ (k : ℕ). On l n t k 1 0) (sym e) gauged-first) (λ e. subst (λ (k : ℕ). On l n t k 1 0) (sym e) coefficients-first)
+      ⊎_elim (λ e. subst (λ (k : ℕ). On l n t k 1 0) (sym e) gauged_first) (λ e. subst (λ (k : ℕ). On l n t k 1 0) (sym e) coefficients_first)

@@ -6,6 +6,7 @@
 // Proved: what the tests of the fields of that kind find, and then that for bytes behind them, is what crate `model` says (`fields_check`). A
 // view is taken apart, moved on and made in three thin functions (`viewed`, `moved`, `walk`), whose proofs are walks by hand; all else is
 // covered.
+#![tactic(auto)]
 ghost use Rattle.std.specs.Prelude.{◌≡◌, ◌≤◌, ◌<◌, eqb};
 ghost use Rattle.model.specs.Refusals.{check_of};
 ghost use Rattle.model.specs.File.{fields_check};
@@ -16,14 +17,14 @@ use fault::Fault;
 use model::Tested;
 
 // A file's bytes and a position in them: the reader walks a file as this view.
-#[derive(Drop)]
+#[derive(Clone, Copy)]
 pub struct View<'a> {
     pub bytes: &'a [u8],
     pub at: usize,
 }
 
 // What the test of a field has found, the offset behind the field, and the tag of the field that stands there; 0 where the walk ends.
-#[derive(Drop)]
+#[derive(Clone, Copy)]
 pub struct Step {
     pub tested: Tested,
     pub next: usize,

@@ -19,7 +19,7 @@ use Rattle.model.specs.declared.Head.{Head}
 use Rattle.model.specs.declared.Steps.{Steps}
 use Rattle.model.specs.declared.Tested.{Tested}
 use Rattle.model.proofs.Sides.{cells_low}
-use Rattle.model.proofs.Weighing.{search_is, found-least}
+use Rattle.model.proofs.Weighing.{search_is, found_least}
 use Rattle.forming.specs.Cell.{Forming}
 use Rattle.weighing.specs.Searches.{Searchable, searched_by, Searches}
 
@@ -32,32 +32,32 @@ module _ (h : Head) (d r u : List ℕ) where
   bare = film_of h [] d r u []
 
   -- its coefficients are within their limits, and a source of −1 is
-  pub weighing-limited : (sources : List ℤ) → sources ≡ replicate (h.rows * h.columns) (negsuc 0) → Searchable h d r u
+  pub weighing_limited : (sources : List ℤ) → sources ≡ replicate (h.rows * h.columns) (negsuc 0) → Searchable h d r u
       → (w : List ℕ) × Limited (film_of (lidded h) w d r u sources)
-  weighing-limited sources e S =
+  weighing_limited sources e S =
       let s = S.1.1.sized in (
         S.0,
         record {
           sized =
               record {
-                rows-some = s.rows-some;
-                rows-low = s.rows-low;
-                columns-some = s.columns-some;
-                columns-low = s.columns-low;
-                ceiling-some = omega arith;
-                ceiling-low = omega arith;
-                weights-len = s.weights-len;
-                diagonals-len = s.diagonals-len;
-                rights-len = s.rights-len;
-                ups-len = s.ups-len;
-                sources-len = ap length e ∙ length-replicate _ _;
+                rows_some = s.rows_some;
+                rows_low = s.rows_low;
+                columns_some = s.columns_some;
+                columns_low = s.columns_low;
+                ceiling_some = omega arith;
+                ceiling_low = omega arith;
+                weights_len = s.weights_len;
+                diagonals_len = s.diagonals_len;
+                rights_len = s.rights_len;
+                ups_len = s.ups_len;
+                sources_len = ap length e ∙ length-replicate _ _;
               };
           cell = λ i b. let c = S.1.1.cell i b in
               record {
-                diagonal-some = c.diagonal-some;
-                diagonal-low = c.diagonal-low;
-                right-low = c.right-low;
-                up-low = c.up-low;
+                diagonal_some = c.diagonal_some;
+                diagonal_low = c.diagonal_low;
+                right_low = c.right_low;
+                up_low = c.up_low;
                 right_edge = c.right_edge;
                 up_edge = c.up_edge;
                 source_low = small i b;
@@ -81,18 +81,18 @@ module _ (h : Head) (d r u : List ℕ) where
   -- what it finds
   module _ {a : Answer RunAnswer} {exit : List ℕ} (G : Gives (unrefused (weight_search bare)) a exit) {t : Check} (e : t ≡ searched_by a) where
     pub finds : t ≡ search_check bare
-    finds = e ∙ ap searched_by G.answer-is
+    finds = e ∙ ap searched_by G.answer_is
 
     -- one number for each cell, which fits a weight
     pub fits : Searchable h d r u → t ≡ pass → (length exit ≡ h.rows * h.columns) × ((i : ℕ) → get_or exit i 0 ≤ 65535)
     unfolding weight_search
     fits S p =
-        let M = found-least (film_of h [] d r u S.1.0) S.0 S.1.1 (sym finds ∙ p) in
-        rw G.Lent-is (M.holds.len, M.low)
+        let M = found_least (film_of h [] d r u S.1.0) S.0 S.1.1 (sym finds ∙ p) in
+        rw G.lent_is (M.holds.len, M.low)
 
 -- a film has a table's room
-pub few-cells : {h : Head} {d r u : List ℕ} {n : ℕ} → Searchable h d r u → n ≡ h.rows * h.columns → n ≤ 1024
-few-cells {h} S e = let s = S.1.1.sized in omega (arith, e, cells_low h.rows h.columns s.rows-low s.columns-low)
+pub few_cells : {h : Head} {d r u : List ℕ} {n : ℕ} → Searchable h d r u → n ≡ h.rows * h.columns → n ≤ 1024
+few_cells {h} S e = let s = S.1.1.sized in omega (arith, e, cells_low h.rows h.columns s.rows_low s.columns_low)
 
 -- ---- a gauged film, whose coefficients are formed at the starts of tables
 

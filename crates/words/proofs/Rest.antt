@@ -11,11 +11,11 @@ use Rattle.model.specs.Bytes.{word_at, long_at, quad_at}
 pub rest : (l : List ℕ) (at : ℕ) → take (length l - at) (drop at l) ≡ drop at l
 rest l at = take_all (length l - at) (drop at l) (omega (arith, length-drop at l))
 
-pub word-from : (l : List ℕ) (at : ℕ) → word_at (take (length l - at) (drop at l)) 0 ≡ word_at l at
-word-from l at = rw (rest l at) (simp (get_or-drop, add-zero))
+pub word_from : (l : List ℕ) (at : ℕ) → word_at (take (length l - at) (drop at l)) 0 ≡ word_at l at
+word_from l at = rw (rest l at) (simp (get_or-drop, add-zero))
 
-pub long-from : (l : List ℕ) (at : ℕ) → long_at (take (length l - at) (drop at l)) 0 ≡ long_at l at
-long-from l at = rw (rest l at) (simp (get_or-drop, add-zero, add_assoc))
+pub long_from : (l : List ℕ) (at : ℕ) → long_at (take (length l - at) (drop at l)) 0 ≡ long_at l at
+long_from l at = rw (rest l at) (simp (get_or-drop, add-zero, add_assoc))
 
-pub quad-from : (l : List ℕ) (at : ℕ) → quad_at (take (length l - at) (drop at l)) 0 ≡ quad_at l at
-quad-from l at = rw (rest l at) (simp (get_or-drop, add-zero, add_assoc))
+pub quad_from : (l : List ℕ) (at : ℕ) → quad_at (take (length l - at) (drop at l)) 0 ≡ quad_at l at
+quad_from l at = rw (rest l at) (simp (get_or-drop, add-zero, add_assoc))

@@ -11,7 +11,7 @@ use mir.Syntax.{Width}
 use mir.Val.{SFits, to_z, of_z, hbits}
 use mir.Facts.{to_z-of_z, to_z_pos}
 use Rattle.model.specs.Bytes.{unsigned_by}
-use Rattle.model.proofs.Integers.{sub-le}
+use Rattle.model.proofs.Integers.{sub_le}
 
 -- half of all numbers of that width, the bits of one, and what they lack to the largest of all
 abbrev half : Width → ℕ
@@ -33,7 +33,7 @@ pub below : (w : Width) (z : ℤ) → SFits w z → lt_z (to_z w (of_z w z)) (po
 below w (pos n) f t = absurd (omega (arith, ltb-true n 0 (rw (to_z-of_z f) at t)))
 below w (negsuc n) f t =
     record {
-      turned = ap (λ (z : ℤ). negsuc 0 -ℤ z) (to_z-of_z f) ∙ sub-le (suc n) 1 (omega arith) ∙ ap pos (omega (arith, f.sfits));
+      turned = ap (λ (z : ℤ). negsuc 0 -ℤ z) (to_z-of_z f) ∙ sub_le (suc n) 1 (omega arith) ∙ ap pos (omega (arith, f.sfits));
       fits = record { sfits = omega (arith, f.sfits) };
       low = omega (arith, f.sfits);
     }

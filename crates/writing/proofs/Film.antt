@@ -13,14 +13,14 @@ use Rattle.model.specs.Fields.{fields_end, field, bytes_of, present, givens}
 use Rattle.model.specs.File.{cells, ringed, gauged, gauged_optional, end_offset, steps_part, weight_bytes, bodies, parts, gauged_end, file_of}
 use Rattle.model.specs.declared.Steps.{Steps}
 use Rattle.model.specs.declared.Steps.TheVariants as steps
-use Rattle.text.proofs.Writes.{sets-next, sets-whole}
-use Rattle.model.proofs.Codes.{word_code, listed-length}
+use Rattle.text.proofs.Writes.{sets_next, sets_whole}
+use Rattle.model.proofs.Codes.{word_code, listed_length}
 use Rattle.writing.specs.Writable.{steps_bytes, file_length, Writable}
 
 -- the field of the steps has at most five bytes, and ends behind them
-pub steps-few : (s : Steps) → length (steps_bytes s) ≤ 5
-steps-few steps.Absent = omega arith
-steps-few (steps.Given f) = omega arith
+pub steps_few : (s : Steps) → length (steps_bytes s) ≤ 5
+steps_few steps.Absent = omega arith
+steps_few (steps.Given f) = omega arith
 
 steps_end : (s : Steps) (at : ℕ) → fields_end (present gauged_optional (steps_part s ∷ [])) at ≡ at + length (steps_bytes s)
 steps_end steps.Absent at = omega arith
@@ -31,14 +31,14 @@ unfolding file_length
 length_known g h l = rw (le-ltb side_limit g.rows h, le-ltb side_limit g.columns l) (sym (steps_end g.steps _))
 
 -- the same as a sum
-pub length-sum : (rows columns : ℕ) (s : Steps) → rows ≤ side_limit → columns ≤ side_limit
+pub length_sum : (rows columns : ℕ) (s : Steps) → rows ≤ side_limit → columns ≤ side_limit
     → file_length rows columns s ≡ 25 + 2 * cells rows columns + ringed rows columns + length (steps_bytes s)
 unfolding file_length
-length-sum rows columns s h l = rw (le-ltb side_limit rows h, le-ltb side_limit columns l) (omega arith)
+length_sum rows columns s h l = rw (le-ltb side_limit rows h, le-ltb side_limit columns l) (omega arith)
 
 -- and as a slice of the file's length has it
-pub film-length : (g : Gauge) → gauged_end g ≡ end_offset (cells g.rows g.columns) (ringed g.rows g.columns) + length (steps_bytes g.steps)
-film-length g = steps_end g.steps _
+pub film_length : (g : Gauge) → gauged_end g ≡ end_offset (cells g.rows g.columns) (ringed g.rows g.columns) + length (steps_bytes g.steps)
+film_length g = steps_end g.steps _
 
 module _ (g : Gauge) (out : List ℕ) (R : Writable g out) where
   pub film_put : {l1 l2 l3 l4 l5 l6 : List ℕ}
@@ -59,20 +59,20 @@ module _ (g : Gauge) (out : List ℕ) (R : Writable g out) where
       let f4 = field 4 t g.thicknesses in
       let f5 = field 5 4 (long (unsigned_of g.wedge)) in
       let f6 = steps_bytes g.steps in
-      let w = listed-length word_code g.weights in
+      let w = listed_length word_code g.weights in
       let k3 : 15 + 2 * n ≡ length (f1 ++ f2 ++ f3) = omega (arith, length-append (f1 ++ f2) f3) in
       let k4 : 15 + 2 * n + 3 + t ≡ length (f1 ++ f2 ++ f3 ++ f4) = omega (arith, length-append (f1 ++ f2 ++ f3) f4) in
       let k5 : 15 + 2 * n + 3 + t + 7 ≡ length (f1 ++ f2 ++ f3 ++ f4 ++ f5) = omega (arith, length-append (f1 ++ f2 ++ f3 ++ f4) f5) in
-      let k6 : length (f1 ++ f2 ++ f3 ++ f4 ++ f5 ++ f6) ≡ length out = omega (arith, length-append (f1 ++ f2 ++ f3 ++ f4 ++ f5) f6, R.out_len, R.weights-len, R.thicknesses-len) in
-      let d2 = sets-next out f1 f2 0 5 e1 e2 refl in
-      let d3 = sets-next out (f1 ++ f2) f3 0 12 d2 e3 refl in
-      let d4 = sets-next out (f1 ++ f2 ++ f3) f4 0 (15 + 2 * n) d3 e4 (omega arith) in
-      let d5 = sets-next out (f1 ++ f2 ++ f3 ++ f4) f5 0 (15 + 2 * n + 3 + t) d4 e5 (omega arith) in
-      let d6 = sets-next out (f1 ++ f2 ++ f3 ++ f4 ++ f5) f6 0 (15 + 2 * n + 3 + t + 7) d5 e6 (omega arith) in
+      let k6 : length (f1 ++ f2 ++ f3 ++ f4 ++ f5 ++ f6) ≡ length out = omega (arith, length-append (f1 ++ f2 ++ f3 ++ f4 ++ f5) f6, R.out_len, R.weights_len, R.thicknesses_len) in
+      let d2 = sets_next out f1 f2 0 5 e1 e2 refl in
+      let d3 = sets_next out (f1 ++ f2) f3 0 12 d2 e3 refl in
+      let d4 = sets_next out (f1 ++ f2 ++ f3) f4 0 (15 + 2 * n) d3 e4 (omega arith) in
+      let d5 = sets_next out (f1 ++ f2 ++ f3 ++ f4) f5 0 (15 + 2 * n + 3 + t) d4 e5 (omega arith) in
+      let d6 = sets_next out (f1 ++ f2 ++ f3 ++ f4 ++ f5) f6 0 (15 + 2 * n + 3 + t + 7) d5 e6 (omega arith) in
       let ps = parts g in
       let fields : bytes_of (gauged n t ++ present gauged_optional ps) (bodies g ++ givens ps) ≡ f1 ++ f2 ++ f3 ++ f4 ++ f5 ++ f6 =
       sym (append_assoc (f1 ++ f2) f3 (f4 ++ (f5 ++ f6))) ∙ sym (append_assoc (f1 ++ f2 ++ f3) f4 (f5 ++ f6)) ∙ sym (append_assoc (f1 ++ f2 ++ f3 ++ f4) f5 f6) in
       d6
-      ∙ sets-whole out (f1 ++ f2 ++ f3 ++ f4 ++ f5 ++ f6) k6
+      ∙ sets_whole out (f1 ++ f2 ++ f3 ++ f4 ++ f5 ++ f6) k6
       ∙ sym fields
-      ∙ (λ k. bytes_of (gauged (R.weights-len k) (R.thicknesses-len k) ++ present gauged_optional ps) (bodies g ++ givens ps))
+      ∙ (λ k. bytes_of (gauged (R.weights_len k) (R.thicknesses_len k) ++ present gauged_optional ps) (bodies g ++ givens ps))

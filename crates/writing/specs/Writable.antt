@@ -17,9 +17,9 @@ file_length rows columns steps =
 
 -- a film whose shape, lengths and steps have passed their tests, and a slice of its file's length
 pub record Writable (g : Gauge) (out : List ℕ) : Type 0 where
-  pub rows-low : g.rows ≤ side_limit
-  pub columns-low : g.columns ≤ side_limit
-  pub weights-len : length g.weights ≡ cells g.rows g.columns
-  pub thicknesses-len : length g.thicknesses ≡ ringed g.rows g.columns
+  pub rows_low : g.rows ≤ side_limit
+  pub columns_low : g.columns ≤ side_limit
+  pub weights_len : length g.weights ≡ cells g.rows g.columns
+  pub thicknesses_len : length g.thicknesses ≡ ringed g.rows g.columns
   pub steps_low : Stepped (factors_of g.steps)
   pub out_len : length out ≡ end_offset (cells g.rows g.columns) (ringed g.rows g.columns) + length (steps_bytes g.steps)

@@ -1,0 +1,40 @@
+-- `order::append_cells` meets its contract: after each turn the cells of the parity so far stand from `start` on, and any more have room.
+use mathlib.Core.Path.{◌≡◌, sym, ◌∙◌}
+use mathlib.Core.Logic.{⊎_elim}
+use Prim.Native.Nat.{◌-◌, ◌≤◌, ◌<◌}
+use native.Mathlib.Omega.{arith}
+use borrow.Author.Rules.{rules}
+use lib.ListN.{length}
+use Rattle.monotone.specs.Ordering.{picks}
+use Rattle.order.specs.Order.{has_parity, Appended}
+use Rattle.order.proofs.Append.{append_none, append_yes, append_no, append_room, append_len}
+use Rattle.order.proofs.append_cells.Goals as goal
+
+-- where a cell is appended, there is room for it
+room : (c : goal.Then-has_parity)
+    → c.before.before.before.loop.next < length c.before.before.before.before.before.args.table.now
+room c =
+    let l = c.before.before.before in
+    let passes = sym c.before.has-parity.ensures ∙ c.if1.true in
+    append_room _ _ l.loop.invariant.1 passes c.before.before.loop-test.true l.before.before.requires.2
+
+pub offset_bounds-table-next : goal.offset_bounds-table-next
+offset_bounds-table-next c = omega (arith, room c)
+
+pub bounds-table-next : goal.bounds-table-next
+bounds-table-next c = omega (arith, room c, append_len c.loop-cell.invariant.1)
+
+pub overflow_add-next : goal.overflow_add-next
+overflow_add-next c = omega (arith, room c)
+
+pub loop-cell-preserved : goal.loop-cell-preserved
+loop-cell-preserved c =
+    let a = c.args in
+    let test = has_parity a.even a.columns in
+    let is = sym c.has_parity.ensures in (
+      omega arith,
+      ⊎_elim
+          (λ w. rw (w.1, w.2) (append_yes test c.loop-cell.cell c.loop-cell.invariant.1 (is ∙ w.0.taken)))
+          (λ w. rw (w.1, w.2) (append_no test c.loop-cell.cell c.loop-cell.invariant.1 (is ∙ w.0.left)))
+          c.if-has_parity.branch,
+    )
