@@ -18,7 +18,7 @@ use Rattle.forming.proofs.form_row.Given as goal
 abbrev pub invariant-loop-i : goal.invariant-loop-i
 invariant-loop-i l =
     (l.i ≤ l.head.columns)
-    × Written (gauge_of l.head [] l.thicknesses (to_z w32 l.wedge) (by_factors l.factors)) ((l.row - 1) * l.head.columns + l.i) l.initial.diagonals l.initial.rights l.initial.ups l.initial.sources l.diagonals l.rights l.ups l.sources
+    × Written (gauge_of l.head [] l.thicknesses l.wedge (by_factors l.factors)) ((l.row - 1) * l.head.columns + l.i) l.initial.diagonals l.initial.rights l.initial.ups l.initial.sources l.diagonals l.rights l.ups l.sources
 
 abbrev pub decreases-loop-i : goal.decreases-loop-i
 decreases-loop-i l = l.columns - l.i

@@ -13,7 +13,7 @@ use Rattle.margin.proofs.greatest_margin.Given as goal
 
 abbrev pub invariant-loop-i : goal.invariant-loop-i
 invariant-loop-i l =
-    (l.i ≤ length l.weights) × (l.k ≡ greatest (margin_at (film_of l.head l.weights l.diagonals l.rights l.ups [])) l.i)
+    (l.i ≤ length l.weights) × (l.margin ≡ greatest (margin_at (film_of l.head l.weights l.diagonals l.rights l.ups [])) l.i)
 
 abbrev pub decreases-loop-i : goal.decreases-loop-i
 decreases-loop-i l = length l.weights - l.i

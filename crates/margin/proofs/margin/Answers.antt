@@ -9,4 +9,6 @@ use borrow.Author.Rules.{rules}
 use Rattle.margin.proofs.margin.Goals as goal
 
 pub greatest_margin-requires-clause-ones : goal.greatest_margin-requires-clause-ones
-greatest_margin-requires-clause-ones c = ?
+greatest_margin-requires-clause-ones c =
+    let small : length c.args.weights.now ≤ 1024 = let s = c.requires.1.limited.sized in omega (arith, s.weights_len, size_low s) in
+    rw c.widen.ensures (ones_prefix _ 1024 small)

@@ -25,12 +25,12 @@ quotient_up-requires c =
     let inside_grid : c.args.at < size_of film = omega (arith, c.requires.accepted.1.limited.sized.weights_len, c.requires.ones.1) in
     let positive_is : c.positive_part.result ≡ positive_part (dominance film c.args.at) =
             let pull = c.pull_at-pull.ensures.0 in
-        let d = dominance_found film c.pre.0.1 c.args.at inside_grid _ _ pull c.slack.ensures in
-        c.positive_part.ensures ∙ ap positive_part (to_z-of_z (sfits_of c.slack.type_inv) ∙ d) in
+        let d = dominance_found film c.requires.accepted.1 c.args.at inside_grid _ _ pull c.slack.ensures in
+        c.positive_part.ensures ∙ ap positive_part (to_z-of_z {w = w64} (sfits_of c.slack.type_inv) ∙ d) in
     let pull = c.pull_at-inside.ensures.0 in
-    let some = dominance_some film c.pre.0.1 c.args.at inside_grid in
+    let some = dominance_some film c.requires.accepted.1 c.args.at inside_grid in
     let fits : SFits w64 c.slack.result = sfits_of c.slack.type_inv in (
-      inside_fits film c.pre.0.1 c.args.at inside_grid c.pre.1.0 _ pull,
+      inside_fits film c.requires.accepted.1 c.args.at inside_grid c.requires.ones.0 _ pull,
       (rw positive_is some, rw (c.positive_part.ensures, to_z-of_z fits) (positive_fits _ fits)),
     )
 
@@ -42,10 +42,10 @@ returns c =
     let inside_grid : c.args.at < size_of film = omega (arith, c.requires.accepted.1.limited.sized.weights_len, c.requires.ones.1) in
     let positive_is : c.positive_part.result ≡ positive_part (dominance film c.args.at) =
             let pull = c.pull_at-pull.ensures.0 in
-        let d = dominance_found film c.pre.0.1 c.args.at inside_grid _ _ pull c.slack.ensures in
-        c.positive_part.ensures ∙ ap positive_part (to_z-of_z (sfits_of c.slack.type_inv) ∙ d) in
+        let d = dominance_found film c.requires.accepted.1 c.args.at inside_grid _ _ pull c.slack.ensures in
+        c.positive_part.ensures ∙ ap positive_part (to_z-of_z {w = w64} (sfits_of c.slack.type_inv) ∙ d) in
     let pull = c.pull_at-inside.ensures.0 in
-    let t = inside_found film c.pre.0.1 c.args.at inside_grid c.pre.1.0 _ pull in
+    let t = inside_found film c.requires.accepted.1 c.args.at inside_grid c.requires.ones.0 _ pull in
     c.quotient_up.ensures
     ∙ ap₂ (λ (d t : ℕ). required_of d 0 t) positive_is t
     ∙ margin_at_sources _ _ _ _ _ _ _

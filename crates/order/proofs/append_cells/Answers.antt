@@ -9,14 +9,14 @@ use Rattle.monotone.specs.Ordering.{picks}
 use Rattle.order.specs.Order.{has_parity, Appended}
 use Rattle.order.proofs.Append.{append_none, append_yes, append_no, append_room, append_len}
 use Rattle.order.proofs.append_cells.Goals as goal
+use Rattle.order.proofs.append_cells.Goals.{then-has_parity, else-has_parity}
 
 -- where a cell is appended, there is room for it
 room : (c : goal.Then-has_parity)
-    → c.before.before.before.loop.next < length c.before.before.before.before.before.args.table.now
+    → c.loop-cell.next < length c.args.table.now
 room c =
-    let l = c.before.before.before in
-    let passes = sym c.before.has-parity.ensures ∙ c.if1.true in
-    append_room _ _ l.loop.invariant.1 passes c.before.before.loop-test.true l.before.before.requires.2
+    let passes = sym c.has_parity.ensures ∙ c.if-has_parity.true in
+    append_room _ _ c.loop-cell.invariant.1 passes c.loop-cell-test.true c.requires.2
 
 pub offset_bounds-table-next : goal.offset_bounds-table-next
 offset_bounds-table-next c = omega (arith, room c)
@@ -33,8 +33,8 @@ loop-cell-preserved c =
     let test = has_parity a.even a.columns in
     let is = sym c.has_parity.ensures in (
       omega arith,
-      ⊎_elim
-          (λ w. rw (w.1, w.2) (append_yes test c.loop-cell.cell c.loop-cell.invariant.1 (is ∙ w.0.taken)))
-          (λ w. rw (w.1, w.2) (append_no test c.loop-cell.cell c.loop-cell.invariant.1 (is ∙ w.0.left)))
-          c.if-has_parity.branch,
+      elim c.if-has_parity.branch [
+        | then-has_parity w ↦ rw (w.table-is, w.next-is) (append_yes test c.loop-cell.cell c.loop-cell.invariant.1 (is ∙ w.if-has_parity.true))
+        | else-has_parity w ↦ rw (w.table-is, w.next-is) (append_no test c.loop-cell.cell c.loop-cell.invariant.1 (is ∙ w.if-has_parity.false))
+      ],
     )

@@ -8,6 +8,7 @@ use lib.ListN.{length}
 use borrow.Author.Rules.{rules}
 use Rattle.render.proofs.Greatest.{Peaked, one_further, first_again, peak_none, peak_taken, peak_kept, peak_all}
 use Rattle.render.proofs.peak.Goals as goal
+use Rattle.render.proofs.peak.Goals.{then-column-columns, else-column-columns, then-top-pressure, else-top-pressure}
 
 pub loop-i-init : goal.loop-i-init
 loop-i-init c = peak_none
@@ -16,11 +17,11 @@ pub loop-i-preserved : goal.loop-i-preserved
 loop-i-preserved c =
     let h : c.loop-i.i < length c.args.field.now = search rules in
     let n : c.if-column-columns.column ≡ (c.loop-i.i + 1) % c.args.columns =
-    ⊎_elim
-    (λ w. w.1 ∙ first_again _ _ c.loop-i.invariant.counted w.0.taken)
-    (λ w. w.1 ∙ one_further _ _ c.loop-i.invariant.counted c.requires w.0.left)
-    c.if-column-columns.branch in
-    ⊎_elim
-    (λ w. rw (w.1, w.2) (peak_taken h c.loop-i.invariant w.0.taken n))
-    (λ w. rw (w.1, w.2) (peak_kept h c.loop-i.invariant w.0.left n))
-    c.if-top-pressure.branch
+            elim c.if-column-columns.branch [
+              | then-column-columns w ↦ w.column-is ∙ first_again _ _ c.loop-i.invariant.counted w.if-column-columns.true
+              | else-column-columns w ↦ w.column-is ∙ one_further _ _ c.loop-i.invariant.counted c.requires w.if-column-columns.false
+            ] in
+    elim c.if-top-pressure.branch [
+      | then-top-pressure w ↦ rw (w.best-is, w.edge-is) (peak_taken h c.loop-i.invariant w.if-top-pressure.true n)
+      | else-top-pressure w ↦ rw (w.best-is, w.edge-is) (peak_kept h c.loop-i.invariant w.if-top-pressure.false n)
+    ]

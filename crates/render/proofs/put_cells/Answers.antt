@@ -18,7 +18,11 @@ loop-i-init c =
     (lines_none film c.args.field.now, omega arith)
 
 pub put_cell-next-requires-clause-fits : goal.put_cell-next-requires-clause-fits
-put_cell-next-requires-clause-fits c = ?
+put_cell-next-requires-clause-fits c =
+    let film : Film = film_of c.args.head [] c.args.diagonals.now c.args.rights.now c.args.ups.now c.args.sources.now in
+    let e = c.requires.field_len in
+    let h : c.loop-i.i < c.args.head.rows * c.args.head.columns = omega (arith, e, c.loop-i-test.true) in
+    line_fits film c.args.field.now c.loop-i.i _ h c.requires.fits c.loop-i.invariant.0
 
 pub loop-i-preserved : goal.loop-i-preserved
 loop-i-preserved c =

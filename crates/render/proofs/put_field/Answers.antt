@@ -17,50 +17,45 @@ use Rattle.render.proofs.put_field.Goals as goal
 pub row-requires : goal.row-requires
 row-requires c =
     let film : Film = film_of c.args.head [] c.args.diagonals.now c.args.rights.now c.args.ups.now c.args.sources.now in
-    let top_is : c.peak-top.result ≡ peak_cell (film (start c)) (start c).args.field.now = let a = (start c).args in c.peak-top.ensures ∙ ap (peak_of a.head.columns a.field.now) (start c).requires.1.0 in
-    let top_inside : c.peak-top.result < (start c).args.head.rows * (start c).args.head.columns =
-            let s = start c in
-        let z = s.pre.0.1.sized in
-        peak_inside (film s) s.args.field.now (omega (arith, mul-le-mul z.rows_some z.columns_some)) top_is in
-    let placed : (1 ≤ (start c).args.head.columns) × (c.peak-top.result ≤ 1024) = let z = (start c).requires.0.1.sized in (z.columns_some, omega (arith, size_low z, top_inside)) in
+    let top_is : c.peak-top.result ≡ peak_cell film c.args.field.now = let a = c.args in c.peak-top.ensures ∙ ap (peak_of a.head.columns a.field.now) c.requires.field_len in
+    let top_inside : c.peak-top.result < c.args.head.rows * c.args.head.columns =
+            let z = c.requires.by_index.1.sized in
+        peak_inside film c.args.field.now (omega (arith, mul-le-mul z.rows_some z.columns_some)) top_is in
+    let placed : (1 ≤ c.args.head.columns) × (c.peak-top.result ≤ 1024) = let z = c.requires.by_index.1.sized in (z.columns_some, omega (arith, size_low z, top_inside)) in
     placed
 
 pub column-requires : goal.column-requires
 column-requires c =
     let film : Film = film_of c.args.head [] c.args.diagonals.now c.args.rights.now c.args.ups.now c.args.sources.now in
-    let top_is : c.peak-top.result ≡ peak_cell (film (start c)) (start c).args.field.now = let a = (start c).args in c.peak-top.ensures ∙ ap (peak_of a.head.columns a.field.now) (start c).requires.1.0 in
-    let top_inside : c.peak-top.result < (start c).args.head.rows * (start c).args.head.columns =
-            let s = start c in
-        let z = s.pre.0.1.sized in
-        peak_inside (film s) s.args.field.now (omega (arith, mul-le-mul z.rows_some z.columns_some)) top_is in
-    let placed : (1 ≤ (start c).args.head.columns) × (c.peak-top.result ≤ 1024) = let z = (start c).requires.0.1.sized in (z.columns_some, omega (arith, size_low z, top_inside)) in
+    let top_is : c.peak-top.result ≡ peak_cell film c.args.field.now = let a = c.args in c.peak-top.ensures ∙ ap (peak_of a.head.columns a.field.now) c.requires.field_len in
+    let top_inside : c.peak-top.result < c.args.head.rows * c.args.head.columns =
+            let z = c.requires.by_index.1.sized in
+        peak_inside film c.args.field.now (omega (arith, mul-le-mul z.rows_some z.columns_some)) top_is in
+    let placed : (1 ≤ c.args.head.columns) × (c.peak-top.result ≤ 1024) = let z = c.requires.by_index.1.sized in (z.columns_some, omega (arith, size_low z, top_inside)) in
     placed
 
 pub offset_bounds-field-top : goal.offset_bounds-field-top
 offset_bounds-field-top c =
     let film : Film = film_of c.args.head [] c.args.diagonals.now c.args.rights.now c.args.ups.now c.args.sources.now in
-    let top_is : c.peak-top.result ≡ peak_cell (film (start c)) (start c).args.field.now = let a = (start c).args in c.peak-top.ensures ∙ ap (peak_of a.head.columns a.field.now) (start c).requires.1.0 in
-    let top_inside : c.peak-top.result < (start c).args.head.rows * (start c).args.head.columns =
-            let s = start c in
-        let z = s.pre.0.1.sized in
-        peak_inside (film s) s.args.field.now (omega (arith, mul-le-mul z.rows_some z.columns_some)) top_is in
-    let placed : (1 ≤ (start c).args.head.columns) × (c.peak-top.result ≤ 1024) = let z = (start c).requires.0.1.sized in (z.columns_some, omega (arith, size_low z, top_inside)) in
+    let top_is : c.peak-top.result ≡ peak_cell film c.args.field.now = let a = c.args in c.peak-top.ensures ∙ ap (peak_of a.head.columns a.field.now) c.requires.field_len in
+    let top_inside : c.peak-top.result < c.args.head.rows * c.args.head.columns =
+            let z = c.requires.by_index.1.sized in
+        peak_inside film c.args.field.now (omega (arith, mul-le-mul z.rows_some z.columns_some)) top_is in
+    let placed : (1 ≤ c.args.head.columns) × (c.peak-top.result ≤ 1024) = let z = c.requires.by_index.1.sized in (z.columns_some, omega (arith, size_low z, top_inside)) in
     record { fits = omega (arith, placed.1) }
 
 pub bounds-field-top : goal.bounds-field-top
 bounds-field-top c =
     let film : Film = film_of c.args.head [] c.args.diagonals.now c.args.rights.now c.args.ups.now c.args.sources.now in
-    let top_is : c.peak-top.result ≡ peak_cell (film (start c)) (start c).args.field.now = let a = (start c).args in c.peak-top.ensures ∙ ap (peak_of a.head.columns a.field.now) (start c).requires.1.0 in
-    let top_inside : c.peak-top.result < (start c).args.head.rows * (start c).args.head.columns =
-            let s = start c in
-        let z = s.pre.0.1.sized in
-        peak_inside (film s) s.args.field.now (omega (arith, mul-le-mul z.rows_some z.columns_some)) top_is in
-    omega (arith, top_inside, (start c).requires.1.0)
+    let top_is : c.peak-top.result ≡ peak_cell film c.args.field.now = let a = c.args in c.peak-top.ensures ∙ ap (peak_of a.head.columns a.field.now) c.requires.field_len in
+    let top_inside : c.peak-top.result < c.args.head.rows * c.args.head.columns =
+            let z = c.requires.by_index.1.sized in
+        peak_inside film c.args.field.now (omega (arith, mul-le-mul z.rows_some z.columns_some)) top_is in
+    omega (arith, top_inside, c.requires.field_len)
 
 pub returns : goal.returns
 returns c =
     let film : Film = film_of c.args.head [] c.args.diagonals.now c.args.rights.now c.args.ups.now c.args.sources.now in
-    let top_is : c.peak-top.result ≡ peak_cell (film (start c)) (start c).args.field.now = let a = (start c).args in c.peak-top.ensures ∙ ap (peak_of a.head.columns a.field.now) (start c).requires.1.0 in
-    let line_is : peak_text c.row.result c.column.result c.wide.result ≡ peak_line (film (start c)) (start c).args.field.now = peak_line_lem (film (start c)) (start c).args.field.now top_is c.row.ensures c.column.ensures c.wide.ensures in
-    let w = c.put_cells-next in
-    writes_then w.ensures (subst (λ (l : List ℕ). Writes l w.last.1.1.1.1.1.1.0 w.result c.put_peak.new.0 c.put_peak.result) line_is c.put_peak.ensures)
+    let top_is : c.peak-top.result ≡ peak_cell film c.args.field.now = let a = c.args in c.peak-top.ensures ∙ ap (peak_of a.head.columns a.field.now) c.requires.field_len in
+    let line_is : peak_text c.row.result c.column.result c.wide.result ≡ peak_line film c.args.field.now = peak_line_lem film c.args.field.now top_is c.row.ensures c.column.ensures c.wide.ensures in
+    writes_then c.put_cells-next.ensures (subst (λ (l : List ℕ). Writes l c.put_cells-next.new.out c.put_cells-next.result c.put_peak.new.out c.put_peak.result) line_is c.put_peak.ensures)

@@ -14,7 +14,7 @@ use Rattle.tightness.proofs.tight_row.Goals as goal
 pub returns-then-not-tight_at : goal.returns-then-not-tight_at
 unfolding tight
 returns-then-not-tight_at c =
-    passed_fails c.loop-column.invariant c.loop-column-test.true (rw (← c.tight_at.ensures) (not-true _ c.if-not-tight_at.true))
+    passed_fails c.loop-column.invariant c.loop-column-test.true (rw (← c.tight_at.ensures) c.if-not-tight_at.true)
 
 pub returns : goal.returns
 unfolding tight

@@ -1,0 +1,14 @@
+-- `number_lists::copy_longs` meets its contract: after each turn the first i numbers stand from the buffer's start on, and no other place has changed (`Put`).
+use lib.Seq.{length-take-le}
+use mathlib.Core.Path.{refl}
+use Prim.Native.Nat.{◌-◌}
+use native.Mathlib.Omega.{arith}
+use lib.ListN.{length}
+use borrow.Author.Rules.{rules}
+use Rattle.text.proofs.Writes.{Put, put_none, put_more, put_all}
+use Rattle.number_lists.proofs.copy_longs.Goals as goal
+
+pub loop-i-preserved : goal.loop-i-preserved
+loop-i-preserved c =
+    let place = length-take-le c.loop-i.i c.args.longs.now c.loop-i.invariant.within in
+    put_more 0 c.loop-i-test.true refl (omega (arith, place)) c.loop-i.invariant refl

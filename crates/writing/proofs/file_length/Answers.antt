@@ -1,0 +1,20 @@
+-- `writing::file_length` meets its contract: the sum is where the fields end (`length_sum`).
+use mathlib.Core.Path.{sym}
+use Prim.Native.Nat.{◌≤◌}
+use native.Mathlib.Omega.{arith}
+use borrow.Author.Tests.{ltb-false}
+use lib.Dec.{ltb}
+use Rattle.model.specs.Limits.{side_limit}
+use Rattle.model.proofs.Checks.{or_parts}
+use Rattle.writing.specs.Writable.{file_length}
+use Rattle.model.proofs.Sides.{cells_low}
+use Rattle.forming.proofs.Cell.{ring_low}
+use Rattle.writing.proofs.Film.{steps_few, length_sum}
+use borrow.Author.Rules.{rules}
+use Rattle.writing.proofs.file_length.Goals as goal
+
+pub returns-then-rows-columns : goal.returns-then-rows-columns
+returns-then-rows-columns c = ?
+
+pub returns : goal.returns
+returns c = ?
