@@ -14,7 +14,11 @@ fn main() {
     if !is_fresh(&archive, &sources) {
         prove(&top);
     }
-    for watched in sources.iter().chain([&archive]) {
+    let crates = folders(&sources[0])
+        .into_iter()
+        .flat_map(|one| folders(&one));
+    let watched = crates.filter(|folder| !is_made(folder));
+    for watched in watched.chain(sources.into_iter().skip(1)).chain([archive]) {
         println!("cargo:rerun-if-changed={}", watched.display());
     }
     println!("cargo:rustc-link-search=native={}", folder.display());
@@ -50,11 +54,25 @@ fn newest(path: &Path) -> io::Result<SystemTime> {
     let mut latest = SystemTime::UNIX_EPOCH;
     for entry in fs::read_dir(path)? {
         let path = entry?.path();
-        if path.is_dir() || is_source(&path) {
+        if (path.is_dir() && !is_made(&path)) || is_source(&path) {
             latest = latest.max(newest(&path)?);
         }
     }
     Ok(latest)
+}
+
+/// The folders in a folder.
+fn folders(path: &Path) -> Vec<PathBuf> {
+    let entries = fs::read_dir(path).into_iter().flatten().flatten();
+    entries
+        .map(|entry| entry.path())
+        .filter(|path| path.is_dir())
+        .collect()
+}
+
+/// Whether a crate's folder is the one that `rt` makes.
+fn is_made(path: &Path) -> bool {
+    path.file_name().is_some_and(|name| name == "out")
 }
 
 fn is_source(path: &Path) -> bool {

@@ -10,7 +10,7 @@ use std::io::{self, Read, Write};
 use std::path::Path;
 use std::process::Command;
 
-/// Film's program. `bench/run` proves it, and starts the measurement at the top of the tree.
+/// Film's program. `bench/run` has `./film` prove it, and starts the measurement at the top of the tree.
 const PROGRAM: &str = "target/bin/film_report";
 
 /// The argument with which this program prints a report: the other side of the rows.
