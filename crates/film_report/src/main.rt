@@ -3,26 +3,26 @@
 // It reads 65,536 bytes, or fewer if the input ends before. What lies beyond the first 22,556 cannot change the report: the longest accepted
 // film has 22,555 bytes, and model/proofs/Prefix (report-prefix) shows it of every list of bytes.
 #![tactic(auto)]
+
 ghost use Rattle.std.specs.Prelude.{◌≤◌, length};
 ghost use Rattle.model.specs.ReportCall.{longest_report};
 
-use libc::{STDIN_FILENO, STDOUT_FILENO};
 use model::Reported;
+use std::io;
+use std::io::Write;
 
-fn print_report(file: &[u8], text: &mut [u8])
+fn print_report(rt: &impl Print, file: &[u8], text: &mut [u8]) -> io::Result<()>
     requires { longest_report ≤ length text.old }
 {
     match report::report(file, text) {
-        Reported::Written(n) => {
-            io::write_all(STDOUT_FILENO, &text[..n]);
-        }
-        Reported::Refused(_) => {}
+        Reported::Written(n) => io::writer(rt).write_all(&text[..n]),
+        Reported::Refused(_) => Ok(()),
     }
 }
 
-fn main() {
-    let mut file = io::large_buffer();
-    let mut text = io::large_buffer();
-    let n = io::read_full(STDIN_FILENO, &mut file);
-    print_report(&file[..n], &mut text);
+fn main(rt: HostRuntime) -> io::Result<()> {
+    let mut file = [0u8; 65536];
+    let mut text = [0u8; 65536];
+    let n = intake::fill(&mut rt.stdin(), &mut file)?;
+    print_report(&rt, &file[..n], &mut text)
 }
