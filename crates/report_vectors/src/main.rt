@@ -4,7 +4,8 @@
 // data/, args and stdout are written by the test oracle (tests/oracle), which was made from document 01 alone and shares nothing with Film.
 #![tactic(auto)]
 
-ghost use Rattle.std.specs.Prelude.{◌≤◌, length, IfOk};
+ghost use Rattle.std.specs.Prelude.{◌≡◌, ◌≤◌, ◌↔◌, length, IfOk, IsTrue};
+ghost use Rattle.model.specs.Report.{report_of};
 ghost use Rattle.model.specs.ReportCall.{longest_report};
 
 use model::Reported;
@@ -14,6 +15,7 @@ use std::{env, fs, io};
 // Whether the report of a film is the expected one.
 fn agrees(film: &[u8], expected: &[u8], text: &mut [u8]) -> bool
     requires { longest_report ≤ length text.old }
+    ensures { IsTrue result ↔ report_of film.now ≡ expected.now }
 {
     match report::report(film, text) {
         Reported::Written(n) => &text[..n] == expected,
@@ -34,6 +36,7 @@ fn compare(rt: &impl Print, path: &str, film: &[u8], expected: &[u8]) -> io::Res
     tell(rt, path, agrees(film, expected, &mut text))
 }
 
+// A file's first bytes, as many as there is room for.
 fn read_start(rt: &impl Files, path: &str, bytes: &mut [u8]) -> io::Result<usize>
     ensures { IfOk result (λ n. n ≤ length bytes.new) }
 {
