@@ -1,62 +1,35 @@
 // Plays film F at its edges (document 01), starred and unstarred, through the public calls, and prints what they answer. The file
 // `stdout` beside src/ was written from document 01 by hand: each line's comment there is the document's.
 #![tactic(auto)]
-use libc::STDOUT_FILENO;
+
 use model::{Counts, Head, Margin, Proposed, Ran, Refusal, Relaxed, Slack};
+use std::io;
 
-fn text(bytes: &[u8]) {
-    io::write_all(STDOUT_FILENO, bytes);
+fn counts(rt: &impl Print, word: &str, c: Counts) -> io::Result<()> {
+    print!(rt; "{word} {} {} {}", c.visits, c.raises, c.accepted)
 }
 
-fn number(x: u64) {
-    io::print_decimal(STDOUT_FILENO, x);
-}
-
-fn spaced(x: u64) {
-    text(b" ");
-    number(x);
-}
-
-fn signed(x: i64) {
-    if x < 0 {
-        text(b" -");
-        number(cell::negative_part(x));
-    } else {
-        text(b" ");
-        number(cell::positive_part(x));
-    }
-}
-
-fn counts(word: &[u8], c: Counts) {
-    text(word);
-    spaced(c.visits as u64);
-    spaced(c.raises as u64);
-    spaced(c.accepted as u64);
-}
-
-fn refused(r: Refusal) {
+fn refused(rt: &impl Print, r: Refusal) -> io::Result<()> {
     let fault = r.fault;
-    text(b"REFUSED");
-    spaced(fault.number() as u64);
-    spaced(r.place as u64);
+    print!(rt; "REFUSED {} {}", fault.number(), r.place)
 }
 
-fn ran(answer: Ran) {
+fn ran(rt: &impl Print, answer: Ran) -> io::Result<()> {
     match answer {
-        Ran::Done(c) => counts(b"DONE", c),
-        Ran::Stopped(c) => counts(b"STOPPED", c),
+        Ran::Done(c) => counts(rt, "DONE", c),
+        Ran::Stopped(c) => counts(rt, "STOPPED", c),
         Ran::Over(at, c) => {
-            counts(b"OVER", c);
-            spaced(at as u64);
+            counts(rt, "OVER", c)?;
+            print!(rt; " {at}")
         }
-        Ran::Refused(r) => refused(r),
+        Ran::Refused(r) => refused(rt, r),
     }
 }
 
-fn slack(answer: Slack) {
+fn slack(rt: &impl Print, answer: Slack) -> io::Result<()> {
     match answer {
-        Slack::Is(x) => signed(x),
-        Slack::Refused(r) => refused(r),
+        Slack::Is(x) => print!(rt; " {x}"),
+        Slack::Refused(r) => refused(rt, r),
     }
 }
 
@@ -73,138 +46,170 @@ fn head(ceiling: u32) -> Head {
     Head {
         rows: 1,
         columns: 2,
-        ceiling: ceiling,
+        ceiling,
     }
 }
 
 // The numbers of a field or a proposal.
-fn numbers(xs: &[u32]) {
-    let mut i = 0;
-    while i < xs.len() {
-        pressure(xs[i]);
-        i += 1;
+fn numbers(rt: &impl Print, xs: &[u32]) -> io::Result<()> {
+    for x in xs {
+        print!(rt; " {x}")?;
     }
+    Ok(())
 }
 
-fn pressure(x: u32) {
-    spaced(x as u64);
-}
-
-fn slack_on(h: Head, sources: &[i64], field: &[u32], at: usize) {
-    slack(problem::slack(h, &WEIGHTS, &DIAGONALS, &RIGHTS, &UPS, sources, field, at));
+fn slack_on(rt: &impl Print, h: Head, sources: &[i64], field: &[u32], at: usize) -> io::Result<()> {
+    slack(
+        rt,
+        problem::slack(h, &WEIGHTS, &DIAGONALS, &RIGHTS, &UPS, sources, field, at),
+    )
 }
 
 // A run from a field: the answer, the field that it leaves and the two slacks.
-fn play_on(h: Head, sources: &[i64], field: &mut [u32], budget: u32, order: u32, proposals: bool) {
-    ran(run::run(
-        h, &WEIGHTS, &DIAGONALS, &RIGHTS, &UPS, sources, field, budget, order, proposals,
-    ));
-    text(b" :");
-    numbers(&field[..]);
-    text(b" :");
-    slack_on(h, sources, &field[..], 0);
-    slack_on(h, sources, &field[..], 1);
-    text(b"\n");
+fn play_on(
+    rt: &impl Print,
+    h: Head,
+    sources: &[i64],
+    field: &mut [u32],
+    budget: u32,
+    order: u32,
+    proposals: bool,
+) -> io::Result<()> {
+    ran(
+        rt,
+        run::run(
+            h, &WEIGHTS, &DIAGONALS, &RIGHTS, &UPS, sources, field, budget, order, proposals,
+        ),
+    )?;
+    print!(rt; " :")?;
+    numbers(rt, field)?;
+    print!(rt; " :")?;
+    slack_on(rt, h, sources, field, 0)?;
+    slack_on(rt, h, sources, field, 1)?;
+    println!(rt)
 }
 
-fn play(ceiling: u32, a: i64, b: i64, p: u32, q: u32, budget: u32, order: u32, proposals: bool) {
-    let sources = [a, b];
-    let mut field = [p, q];
+fn play(
+    rt: &impl Print,
+    ceiling: u32,
+    sources: [i64; 2],
+    mut field: [u32; 2],
+    budget: u32,
+    order: u32,
+    proposals: bool,
+) -> io::Result<()> {
     play_on(
+        rt,
         head(ceiling),
         &sources,
         &mut field,
         budget,
         order,
         proposals,
-    );
+    )
 }
 
-fn proposed(answer: Proposed) {
+fn proposed(rt: &impl Print, answer: Proposed) -> io::Result<()> {
     match answer {
-        Proposed::Accepted(n) => {
-            text(b" TAKEN");
-            spaced(n as u64);
-        }
-        Proposed::Rejected => text(b" DECLINED"),
-        Proposed::Refused(r) => refused(r),
+        Proposed::Accepted(n) => print!(rt; " TAKEN {n}"),
+        Proposed::Rejected => print!(rt; " DECLINED"),
+        Proposed::Refused(r) => refused(rt, r),
     }
 }
 
-fn relaxed(answer: Relaxed) {
+fn relaxed(rt: &impl Print, answer: Relaxed) -> io::Result<()> {
     match answer {
-        Relaxed::Quiet => text(b" QUIET"),
-        Relaxed::Raised(p) => {
-            text(b" RAISED");
-            spaced(p as u64);
-        }
-        Relaxed::Over(at) => {
-            text(b" OVER");
-            spaced(at as u64);
-        }
-        Relaxed::Refused(r) => refused(r),
+        Relaxed::Quiet => print!(rt; " QUIET"),
+        Relaxed::Raised(p) => print!(rt; " RAISED {p}"),
+        Relaxed::Over(at) => print!(rt; " OVER {at}"),
+        Relaxed::Refused(r) => refused(rt, r),
     }
 }
 
-fn margin(answer: Margin) {
+fn margin(rt: &impl Print, answer: Margin) -> io::Result<()> {
     match answer {
-        Margin::Is(k) => spaced(k as u64),
-        Margin::Refused(r) => refused(r),
+        Margin::Is(k) => print!(rt; " {k}"),
+        Margin::Refused(r) => refused(rt, r),
     }
 }
 
-fn margin_on(h: Head, sources: &[i64]) {
-    text(b"MARGIN");
-    margin(line_estimate::margin(h, &WEIGHTS, &DIAGONALS, &RIGHTS, &UPS, sources));
+fn margin_on(rt: &impl Print, h: Head, sources: &[i64]) -> io::Result<()> {
+    print!(rt; "MARGIN")?;
+    margin(
+        rt,
+        line_estimate::margin(h, &WEIGHTS, &DIAGONALS, &RIGHTS, &UPS, sources),
+    )
 }
 
-fn estimate_on(h: Head, sources: &[i64], field: &[u32], proposal: &mut [u32]) {
+fn estimate_on(
+    rt: &impl Print,
+    h: Head,
+    sources: &[i64],
+    field: &[u32],
+    proposal: &mut [u32],
+) -> io::Result<()> {
     line_estimate::estimate(
         h, &WEIGHTS, &DIAGONALS, &RIGHTS, &UPS, sources, field, 1, proposal,
     );
-    text(b" OFFER");
-    numbers(&proposal[..]);
+    print!(rt; " OFFER")?;
+    numbers(rt, proposal)
 }
 
-fn propose_on(h: Head, sources: &[i64], field: &mut [u32], proposal: &[u32]) {
-    proposed(line::propose(
-        h, &WEIGHTS, &DIAGONALS, &RIGHTS, &UPS, sources, field, 1, proposal,
-    ));
+fn propose_on(
+    rt: &impl Print,
+    h: Head,
+    sources: &[i64],
+    field: &mut [u32],
+    proposal: &[u32],
+) -> io::Result<()> {
+    proposed(
+        rt,
+        line::propose(
+            h, &WEIGHTS, &DIAGONALS, &RIGHTS, &UPS, sources, field, 1, proposal,
+        ),
+    )
 }
 
-fn relax_on(h: Head, sources: &[i64], field: &mut [u32]) {
-    relaxed(problem::relax(h, &WEIGHTS, &DIAGONALS, &RIGHTS, &UPS, sources, field, 0));
+fn relax_on(rt: &impl Print, h: Head, sources: &[i64], field: &mut [u32]) -> io::Result<()> {
+    relaxed(
+        rt,
+        problem::relax(h, &WEIGHTS, &DIAGONALS, &RIGHTS, &UPS, sources, field, 0),
+    )
 }
 
 // The margin, the estimate of the row from the field, its proposal, and the relaxation of the first cell.
-fn steps(ceiling: u32, a: i64, b: i64) {
+fn steps(rt: &impl Print, ceiling: u32, sources: [i64; 2]) -> io::Result<()> {
     let h = head(ceiling);
-    let sources = [a, b];
     let mut field = [0u32, 0];
     let mut proposal = [0u32, 0];
-    margin_on(h, &sources);
-    estimate_on(h, &sources, &field, &mut proposal);
-    propose_on(h, &sources, &mut field, &proposal);
-    relax_on(h, &sources, &mut field);
-    text(b"\n");
+    margin_on(rt, h, &sources)?;
+    estimate_on(rt, h, &sources, &field, &mut proposal)?;
+    propose_on(rt, h, &sources, &mut field, &proposal)?;
+    relax_on(rt, h, &sources, &mut field)?;
+    println!(rt)
 }
 
-fn main() {
-    play(100, -200, -100, 0, 0, 4000000, 0, false);
-    play(100, -200, -100, 0, 0, 4000000, 1, false);
-    play(100, -200, -100, 0, 0, 4000000, 2, false);
-    play(100, -200, -100, 0, 0, 5, 0, false);
-    play(100, -200, -100, 0, 0, 6, 0, false);
-    play(100, -200, -100, 2, 4, 2, 0, false);
-    play(4, -200, -100, 0, 0, 4000000, 0, false);
-    play(3, -200, -100, 0, 0, 4000000, 0, false);
-    play(100, 0, 0, 0, 0, 4000000, 0, false);
-    play(100, 200, 100, 0, 0, 4000000, 0, false);
-    play(100, -200, -100, 3, 0, 4000000, 0, false);
-    play(5000, -200000, -100000, 0, 0, 4000000, 0, true);
-    play(100, -200, -100, 0, 0, 0, 0, true);
-    play(100, -200, -100, 0, 0, 6, 3, false);
-    play(100, -200, -100, 0, 101, 6, 0, false);
-    steps(100, -200, -100);
-    steps(5000, -200000, -100000);
+// Film F's runs, each from a field of its own.
+fn runs(rt: &impl Print) -> io::Result<()> {
+    play(rt, 100, [-200, -100], [0, 0], 4000000, 0, false)?;
+    play(rt, 100, [-200, -100], [0, 0], 4000000, 1, false)?;
+    play(rt, 100, [-200, -100], [0, 0], 4000000, 2, false)?;
+    play(rt, 100, [-200, -100], [0, 0], 5, 0, false)?;
+    play(rt, 100, [-200, -100], [0, 0], 6, 0, false)?;
+    play(rt, 100, [-200, -100], [2, 4], 2, 0, false)?;
+    play(rt, 4, [-200, -100], [0, 0], 4000000, 0, false)?;
+    play(rt, 3, [-200, -100], [0, 0], 4000000, 0, false)?;
+    play(rt, 100, [0, 0], [0, 0], 4000000, 0, false)?;
+    play(rt, 100, [200, 100], [0, 0], 4000000, 0, false)?;
+    play(rt, 100, [-200, -100], [3, 0], 4000000, 0, false)?;
+    play(rt, 5000, [-200000, -100000], [0, 0], 4000000, 0, true)?;
+    play(rt, 100, [-200, -100], [0, 0], 0, 0, true)?;
+    play(rt, 100, [-200, -100], [0, 0], 6, 3, false)?;
+    play(rt, 100, [-200, -100], [0, 101], 6, 0, false)
+}
+
+fn main(rt: HostRuntime) -> io::Result<()> {
+    runs(&rt)?;
+    steps(&rt, 100, [-200, -100])?;
+    steps(&rt, 5000, [-200000, -100000])
 }

@@ -2,8 +2,10 @@
 // reader lays over its buffers, the file written back, and refusals. The file `stdout` beside src/ was made from
 // the documents, and not from what the program prints.
 #![tactic(auto)]
-use libc::STDOUT_FILENO;
+
 use model::{Head, LoadedCoefficients, Refusal, Saved, Steps};
+use std::fmt::Display;
+use std::io;
 
 // Film F: 1 row, 2 columns, ceiling 100, weights 1 1, ring rows all 1, middle row 3 2 1 1, wedge 100. Its coefficient film has 71 bytes.
 const WEIGHTS: [u16; 2] = [1, 1];
@@ -16,223 +18,188 @@ const HEAD: Head = Head {
     ceiling: 100,
 };
 
-fn text(bytes: &[u8]) {
-    io::write_all(STDOUT_FILENO, bytes);
-}
-
-fn spaced(x: u64) {
-    text(b" ");
-    io::print_decimal(STDOUT_FILENO, x);
-}
-
-fn wide(x: u32) {
-    spaced(x as u64);
-}
-
-fn narrow(x: u16) {
-    spaced(x as u64);
-}
-
-fn octet(x: u8) {
-    spaced(x as u64);
-}
-
-fn signed(x: i64) {
-    if x < 0 {
-        text(b" -");
-        io::print_decimal(STDOUT_FILENO, cell::negative_part(x));
-    } else {
-        spaced(cell::positive_part(x));
-    }
-}
-
-fn refused(r: Refusal) {
+fn refused(rt: &impl Print, r: Refusal) -> io::Result<()> {
     let fault = r.fault;
-    text(b" REFUSED");
-    spaced(fault.number() as u64);
-    spaced(r.place as u64);
+    print!(rt; " REFUSED {} {}", fault.number(), r.place)
 }
 
-fn saved(answer: Saved) {
+fn saved(rt: &impl Print, answer: Saved) -> io::Result<()> {
     match answer {
-        Saved::Written => text(b" WRITTEN"),
-        Saved::Refused(r) => refused(r),
+        Saved::Written => print!(rt; " WRITTEN"),
+        Saved::Refused(r) => refused(rt, r),
     }
 }
 
-fn octets(bytes: &[u8]) {
-    let mut i = 0;
-    while i < bytes.len() {
-        octet(bytes[i]);
-        i += 1;
+fn octets(rt: &impl Print, bytes: &[u8]) -> io::Result<()> {
+    for byte in bytes {
+        print!(rt; " {byte}")?;
     }
-    text(b"\n");
+    println!(rt)
 }
 
 // The converter, on film F with that first thickness of the middle row.
-fn convert(thickness: u8, out: &mut [u8]) {
+fn convert(rt: &impl Print, thickness: u8, out: &mut [u8]) -> io::Result<()> {
     let mut thicknesses = THICKNESSES;
     thicknesses[4] = thickness;
-    text(b"CONVERT");
-    saved(conversion::convert(HEAD, &WEIGHTS, &thicknesses, 100, Steps::Absent, out));
-    text(b" :");
-    octets(&out[..]);
+    print!(rt; "CONVERT")?;
+    saved(
+        rt,
+        conversion::convert(HEAD, &WEIGHTS, &thicknesses, 100, Steps::Absent, out),
+    )?;
+    print!(rt; " :")?;
+    octets(rt, out)
 }
 
-fn narrow_at(xs: &[u16], i: usize) {
-    if i < xs.len() {
-        narrow(xs[i]);
-    }
-}
-
-fn wide_at(xs: &[u32], i: usize) {
-    if i < xs.len() {
-        wide(xs[i]);
-    }
-}
-
-fn signed_at(xs: &[i64], i: usize) {
-    if i < xs.len() {
-        signed(xs[i]);
+// The number at a place of a buffer, where the buffer has that place.
+fn number_at<N: Copy + Display + Drop>(rt: &impl Print, xs: &[N], i: usize) -> io::Result<()> {
+    match xs.get(i) {
+        Some(x) => print!(rt; " {x}"),
+        None => Ok(()),
     }
 }
 
 // One place of each buffer.
 fn place(
+    rt: &impl Print,
     weights: &[u16],
     diagonals: &[u32],
     rights: &[u32],
     ups: &[u32],
     sources: &[i64],
     i: usize,
-) {
-    text(b" :");
-    narrow_at(weights, i);
-    wide_at(diagonals, i);
-    wide_at(rights, i);
-    wide_at(ups, i);
-    signed_at(sources, i);
+) -> io::Result<()> {
+    print!(rt; " :")?;
+    number_at(rt, weights, i)?;
+    number_at(rt, diagonals, i)?;
+    number_at(rt, rights, i)?;
+    number_at(rt, ups, i)?;
+    number_at(rt, sources, i)
 }
 
 // The first three: those of film F, and one beyond.
-fn show(weights: &[u16], diagonals: &[u32], rights: &[u32], ups: &[u32], sources: &[i64]) {
-    place(weights, diagonals, rights, ups, sources, 0);
-    place(weights, diagonals, rights, ups, sources, 1);
-    place(weights, diagonals, rights, ups, sources, 2);
-    text(b"\n");
+fn show(
+    rt: &impl Print,
+    weights: &[u16],
+    diagonals: &[u32],
+    rights: &[u32],
+    ups: &[u32],
+    sources: &[i64],
+) -> io::Result<()> {
+    for i in 0..3 {
+        place(rt, weights, diagonals, rights, ups, sources, i)?;
+    }
+    println!(rt)
 }
 
-fn loaded(answer: LoadedCoefficients) {
+fn loaded(rt: &impl Print, answer: LoadedCoefficients) -> io::Result<()> {
     match answer {
-        LoadedCoefficients::Film(h) => {
-            wide(h.rows);
-            wide(h.columns);
-            wide(h.ceiling);
-        }
-        LoadedCoefficients::Refused(r) => refused(r),
+        LoadedCoefficients::Film(h) => print!(rt; " {} {} {}", h.rows, h.columns, h.ceiling),
+        LoadedCoefficients::Refused(r) => refused(rt, r),
     }
 }
 
 // The reader, on buffers that hold other numbers before.
 fn read_into(
+    rt: &impl Print,
     file: &[u8],
     weights: &mut [u16],
     diagonals: &mut [u32],
     rights: &mut [u32],
     ups: &mut [u32],
     sources: &mut [i64],
-) {
-    text(b"READ");
-    loaded(coefficient_file::read(file, weights, diagonals, rights, ups, sources));
-    show(
-        &weights[..],
-        &diagonals[..],
-        &rights[..],
-        &ups[..],
-        &sources[..],
-    );
+) -> io::Result<()> {
+    print!(rt; "READ")?;
+    loaded(
+        rt,
+        coefficient_file::read(file, weights, diagonals, rights, ups, sources),
+    )?;
+    show(rt, weights, diagonals, rights, ups, sources)
 }
 
-fn read(file: &[u8]) {
+fn read(rt: &impl Print, file: &[u8]) -> io::Result<()> {
     let mut weights = [7u16; 1024];
     let mut diagonals = [7u32; 1024];
     let mut rights = [7u32; 1024];
     let mut ups = [7u32; 1024];
     let mut sources = [-7i64; 1024];
     read_into(
+        rt,
         file,
         &mut weights,
         &mut diagonals,
         &mut rights,
         &mut ups,
         &mut sources,
-    );
+    )
 }
 
 // With a last buffer that is one too short.
-fn read_short(file: &[u8]) {
+fn read_short(rt: &impl Print, file: &[u8]) -> io::Result<()> {
     let mut weights = [7u16; 1024];
     let mut diagonals = [7u32; 1024];
     let mut rights = [7u32; 1024];
     let mut ups = [7u32; 1024];
     let mut sources = [-7i64; 1023];
     read_into(
+        rt,
         file,
         &mut weights,
         &mut diagonals,
         &mut rights,
         &mut ups,
         &mut sources,
-    );
+    )
 }
 
 // The writer, with that first weight and that first diagonal.
-fn write(weight: u16, diagonal: u32, out: &mut [u8]) {
+fn write(rt: &impl Print, weight: u16, diagonal: u32, out: &mut [u8]) -> io::Result<()> {
     let weights = [weight, 1];
     let diagonals = [diagonal, 51];
-    text(b"WRITE");
-    saved(coefficient_file::write(
-        HEAD,
-        &weights,
-        &diagonals,
-        &[27u32, 0],
-        &[0u32, 0],
-        &[-200i64, -100],
-        out,
-    ));
-    text(b" :");
-    octets(&out[..]);
+    print!(rt; "WRITE")?;
+    saved(
+        rt,
+        coefficient_file::write(
+            HEAD,
+            &weights,
+            &diagonals,
+            &[27u32, 0],
+            &[0u32, 0],
+            &[-200i64, -100],
+            out,
+        ),
+    )?;
+    print!(rt; " :")?;
+    octets(rt, out)
 }
 
 // The file without its last byte.
-fn read_cut(file: &[u8]) {
-    let n = file.len();
-    if 0 < n {
-        let end = n - 1;
-        read(&file[..end]);
+fn read_cut(rt: &impl Print, file: &[u8]) -> io::Result<()> {
+    match file.split_last() {
+        Some((_, cut)) => read(rt, cut),
+        None => Ok(()),
     }
 }
 
-fn main() {
+fn main(rt: HostRuntime) -> io::Result<()> {
     let mut file = [0u8; 71];
-    convert(3, &mut file);
-    read(&file);
-    read_short(&file);
-    read_cut(&file);
+    convert(&rt, 3, &mut file)?;
+    read(&rt, &file)?;
+    read_short(&rt, &file)?;
+    read_cut(&rt, &file)?;
     let mut other = file;
     other[25] = 0;
-    read(&other);
-    read_cut(&other);
+    read(&rt, &other)?;
+    read_cut(&rt, &other)?;
     other[25] = 27;
-    read(&other);
+    read(&rt, &other)?;
     let mut copy = [0u8; 71];
-    write(1, 206, &mut copy);
+    write(&rt, 1, 206, &mut copy)?;
     let mut kept = [9u8; 71];
-    write(0, 0, &mut kept);
-    write(1, 0, &mut kept);
-    write(1, 27, &mut kept);
-    convert(0, &mut kept);
+    write(&rt, 0, 0, &mut kept)?;
+    write(&rt, 1, 0, &mut kept)?;
+    write(&rt, 1, 27, &mut kept)?;
+    convert(&rt, 0, &mut kept)?;
     let mut short = [9u8; 70];
-    write(1, 206, &mut short);
-    convert(3, &mut short);
+    write(&rt, 1, 206, &mut short)?;
+    convert(&rt, 3, &mut short)
 }

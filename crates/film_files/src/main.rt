@@ -5,64 +5,28 @@
 // data/, args and stdout are written by tests/film_files.py, from documents 01 and 02 alone: it shares no line with this program, works
 // in Python's whole numbers, and each faulty file carries its refusal's number and place written by hand.
 #![tactic(auto)]
-use libc::STDOUT_FILENO;
+
 use model::{Formed, Head, Loaded, Refusal, Saved, Steps};
+use std::fmt::Display;
+use std::rt::Files;
+use std::{env, fs, io};
 
-fn text(bytes: &[u8]) {
-    io::write_all(STDOUT_FILENO, bytes);
-}
-
-fn spaced(x: u64) {
-    text(b" ");
-    io::print_decimal(STDOUT_FILENO, x);
-}
-
-fn signed(x: i64) {
-    if x < 0 {
-        text(b" -");
-        io::print_decimal(STDOUT_FILENO, cell::negative_part(x));
-    } else {
-        spaced(cell::positive_part(x));
-    }
-}
-
-fn refused(r: Refusal) {
+fn refused(rt: &impl Print, r: Refusal) -> io::Result<()> {
     let fault = r.fault;
-    text(b"REFUSED");
-    spaced(fault.number() as u64);
-    spaced(r.place as u64);
-    text(b"\n");
+    println!(rt; "REFUSED {} {}", fault.number(), r.place)
 }
 
-fn number(x: u32) {
-    spaced(x as u64);
-}
-
-fn signed_number(x: i32) {
-    signed(x as i64);
-}
-
-fn numbers(word: &[u8], xs: &[u32]) {
-    text(word);
-    let mut i = 0;
-    while i < xs.len() {
-        number(xs[i]);
-        i += 1;
+// A word, and the numbers of a list.
+fn numbers<N: Copy + Display + Drop>(rt: &impl Print, word: &str, xs: &[N]) -> io::Result<()> {
+    print!(rt; "{word}")?;
+    for x in xs {
+        print!(rt; " {x}")?;
     }
-    text(b"\n");
-}
-
-fn signed_numbers(word: &[u8], xs: &[i64]) {
-    text(word);
-    let mut i = 0;
-    while i < xs.len() {
-        signed(xs[i]);
-        i += 1;
-    }
-    text(b"\n");
+    println!(rt)
 }
 
 fn coefficients_in(
+    rt: &impl Print,
     head: Head,
     weights: &[u16],
     thicknesses: &[u8],
@@ -72,7 +36,7 @@ fn coefficients_in(
     rights: &mut [u32],
     ups: &mut [u32],
     sources: &mut [i64],
-) {
+) -> io::Result<()> {
     match coefficients::form(
         head,
         weights,
@@ -85,37 +49,47 @@ fn coefficients_in(
         sources,
     ) {
         Formed::Written => {
-            numbers(b"DIAGONALS", &diagonals[..]);
-            numbers(b"RIGHTS", &rights[..]);
-            numbers(b"UPS", &ups[..]);
-            signed_numbers(b"SOURCES", &sources[..]);
+            numbers(rt, "DIAGONALS", diagonals)?;
+            numbers(rt, "RIGHTS", rights)?;
+            numbers(rt, "UPS", ups)?;
+            numbers(rt, "SOURCES", sources)
         }
-        Formed::Refused(r) => refused(r),
+        Formed::Refused(r) => refused(rt, r),
     }
 }
 
-fn coefficients(head: Head, weights: &[u16], thicknesses: &[u8], wedge: i32, steps: Steps) {
+fn coefficients(
+    rt: &impl Print,
+    head: Head,
+    weights: &[u16],
+    thicknesses: &[u8],
+    wedge: i32,
+    steps: Steps,
+) -> io::Result<()> {
     let n = weights.len();
+    if n > 1024 {
+        return Ok(());
+    }
     let mut diagonals = [0u32; 1024];
     let mut rights = [0u32; 1024];
     let mut ups = [0u32; 1024];
     let mut sources = [0i64; 1024];
-    if n <= 1024 {
-        coefficients_in(
-            head,
-            weights,
-            thicknesses,
-            wedge,
-            steps,
-            &mut diagonals[..n],
-            &mut rights[..n],
-            &mut ups[..n],
-            &mut sources[..n],
-        );
-    }
+    coefficients_in(
+        rt,
+        head,
+        weights,
+        thicknesses,
+        wedge,
+        steps,
+        &mut diagonals[..n],
+        &mut rights[..n],
+        &mut ups[..n],
+        &mut sources[..n],
+    )
 }
 
 fn write_back(
+    rt: &impl Print,
     head: Head,
     weights: &[u16],
     thicknesses: &[u8],
@@ -123,120 +97,125 @@ fn write_back(
     steps: Steps,
     file: &[u8],
     out: &mut [u8],
-) {
+) -> io::Result<()> {
     match file::write(head, weights, thicknesses, wedge, steps, out) {
         Saved::Written => {
-            if check::same(file, &out[..]) {
-                text(b"WRITES BACK THE SAME\n");
+            if file == out {
+                println!(rt; "WRITES BACK THE SAME")
             } else {
-                text(b"WRITES BACK ANOTHER FILE\n");
+                println!(rt; "WRITES BACK ANOTHER FILE")
             }
         }
-        Saved::Refused(r) => refused(r),
+        Saved::Refused(r) => refused(rt, r),
     }
 }
 
 // A film's grid steps, where it has a field for them.
-fn grid(steps: Steps) {
+fn grid(rt: &impl Print, steps: Steps) -> io::Result<()> {
     match steps {
-        Steps::Absent => {}
-        Steps::Given(factors) => {
-            text(b" ALONG");
-            number(factors.along);
-            text(b" ACROSS");
-            number(factors.across);
-        }
+        Steps::Absent => Ok(()),
+        Steps::Given(factors) => print!(rt; " ALONG {} ACROSS {}", factors.along, factors.across),
     }
 }
 
-fn film(head: Head, weights: &[u16], thicknesses: &[u8], wedge: i32, steps: Steps, file: &[u8]) {
-    text(b"FILM");
-    number(head.rows);
-    number(head.columns);
-    number(head.ceiling);
-    signed_number(wedge);
-    grid(steps);
-    text(b"\n");
-    coefficients(head, weights, thicknesses, wedge, steps);
+fn film(
+    rt: &impl Print,
+    head: Head,
+    weights: &[u16],
+    thicknesses: &[u8],
+    wedge: i32,
+    steps: Steps,
+    file: &[u8],
+) -> io::Result<()> {
+    print!(rt;
+        "FILM {} {} {} {wedge}",
+        head.rows, head.columns, head.ceiling
+    )?;
+    grid(rt, steps)?;
+    println!(rt)?;
+    coefficients(rt, head, weights, thicknesses, wedge, steps)?;
     let n = file.len();
-    let mut out = io::buffer();
-    if n <= 4096 {
-        write_back(
+    if n > 4096 {
+        return Ok(());
+    }
+    let mut out = [0u8; 4096];
+    write_back(
+        rt,
+        head,
+        weights,
+        thicknesses,
+        wedge,
+        steps,
+        file,
+        &mut out[..n],
+    )
+}
+
+// The parts of the buffers that the film uses. What the reader accepts is within all these bounds.
+fn used(
+    rt: &impl Print,
+    head: Head,
+    weights: &[u16],
+    thicknesses: &[u8],
+    wedge: i32,
+    steps: Steps,
+    file: &[u8],
+) -> io::Result<()> {
+    if head.rows > 32 || head.columns > 32 {
+        return Ok(());
+    }
+    let n = shape::area(head.rows, head.columns);
+    let t = shape::ring(head.rows, head.columns);
+    if n > weights.len() || t > thicknesses.len() {
+        return Ok(());
+    }
+    film(
+        rt,
+        head,
+        &weights[..n],
+        &thicknesses[..t],
+        wedge,
+        steps,
+        file,
+    )
+}
+
+fn film_in(
+    rt: &impl Print,
+    file: &[u8],
+    weights: &mut [u16],
+    thicknesses: &mut [u8],
+) -> io::Result<()> {
+    match file::read(file, weights, thicknesses) {
+        Loaded::Film(head, wedge, steps) => used(
+            rt,
             head,
             weights,
             thicknesses,
             wedge,
             steps,
             file,
-            &mut out[..n],
-        );
-    }
-}
-
-// The parts of the buffers that the film uses. What the reader accepts is within all these bounds.
-fn used(head: Head, weights: &[u16], thicknesses: &[u8], wedge: i32, steps: Steps, file: &[u8]) {
-    if head.rows > 32 {
-        return;
-    }
-    if head.columns > 32 {
-        return;
-    }
-    let n = shape::area(head.rows, head.columns);
-    let t = shape::ring(head.rows, head.columns);
-    if n > weights.len() {
-        return;
-    }
-    if t > thicknesses.len() {
-        return;
-    }
-    film(head, &weights[..n], &thicknesses[..t], wedge, steps, file);
-}
-
-fn film_in(file: &[u8], weights: &mut [u16], thicknesses: &mut [u8]) {
-    match file::read(file, weights, thicknesses) {
-        Loaded::Film(head, wedge, steps) => used(
-            head,
-            &weights[..],
-            &thicknesses[..],
-            wedge,
-            steps,
-            file,
         ),
-        Loaded::Refused(r) => refused(r),
+        Loaded::Refused(r) => refused(rt, r),
     }
 }
 
-fn show(file: &[u8]) {
+fn show(rt: &impl Print, file: &[u8]) -> io::Result<()> {
     let mut weights = [0u16; 1024];
     let mut thicknesses = [0u8; 1156];
-    film_in(file, &mut weights, &mut thicknesses);
+    film_in(rt, file, &mut weights, &mut thicknesses)
 }
 
-fn show_file(path: &[u8]) {
-    text(path);
-    text(b"\n");
-    let fd = os::open_read(path);
-    if fd < 0 {
-        os::fail(path);
-        return;
+fn show_file(rt: &(impl Files + Print), path: &str) -> io::Result<()> {
+    println!(rt; "{path}")?;
+    let mut bytes = [0u8; 4096];
+    let n = intake::fill(&mut fs::open(rt, path)?, &mut bytes)?;
+    show(rt, &bytes[..n])
+}
+
+fn main(rt: HostRuntime) -> io::Result<()> {
+    for path in env::args(&rt)?.skip(1) {
+        show_file(&rt, path.as_str())?;
     }
-    let mut bytes = io::buffer();
-    let n = io::read_full(fd, &mut bytes);
-    libc::close(fd);
-    show(&bytes[..n]);
-}
-
-fn show_argument(i: usize) {
-    let mut path = io::buffer();
-    let n = os::arg(i, &mut path);
-    show_file(&path[..n]);
-}
-
-fn main() {
-    let n = os::arg_count();
-    let mut i = 1;
-    while i < n {
-        show_argument(i);
-        i += 1;
-    }
+    Ok(())
 }
