@@ -9,10 +9,30 @@ use borrow.Author.Rules.{rules}
 use Rattle.coefficients.proofs.form.Goals as goal
 
 pub form-requires-clause-ringed : goal.form-requires-clause-ringed
-form-requires-clause-ringed c = ?
+form-requires-clause-ringed c =
+    let check : Check =
+            let a = c.args in
+        form_check (gauge_of a.head a.weights.now a.thicknesses.now a.wedge a.steps) a.diagonals.now a.rights.now a.ups.now a.sources.now in
+    let tested : check_of c.gauge_tests.result ≡ check =
+            let a = c.args in
+        form_tested a.head a.weights.now a.thicknesses.now a.wedge a.steps a.diagonals.now a.rights.now a.ups.now a.sources.now
+        c.area-n.ensures (to_z-of_z c.ranges.wedge) c.gauge_tests.ensures in
+    let a = c.args in
+    let e = sym tested ∙ ap check_of c.in-Fine.is in
+    (form_ready a.head a.weights.now a.thicknesses.now a.wedge a.steps a.diagonals.now a.rights.now a.ups.now a.sources.now e).0
 
 pub form-requires-clause-room : goal.form-requires-clause-room
-form-requires-clause-room c = ?
+form-requires-clause-room c =
+    let check : Check =
+            let a = c.args in
+        form_check (gauge_of a.head a.weights.now a.thicknesses.now a.wedge a.steps) a.diagonals.now a.rights.now a.ups.now a.sources.now in
+    let tested : check_of c.gauge_tests.result ≡ check =
+            let a = c.args in
+        form_tested a.head a.weights.now a.thicknesses.now a.wedge a.steps a.diagonals.now a.rights.now a.ups.now a.sources.now
+        c.area-n.ensures (to_z-of_z c.ranges.wedge) c.gauge_tests.ensures in
+    let a = c.args in
+    let e = sym tested ∙ ap check_of c.in-Fine.is in
+    (form_ready a.head a.weights.now a.thicknesses.now a.wedge a.steps a.diagonals.now a.rights.now a.ups.now a.sources.now e).1
 
 pub returns-in-Fine : goal.returns-in-Fine
 returns-in-Fine c =
@@ -28,9 +48,9 @@ returns-in-Fine c =
     form_written a.head a.weights.now a.thicknesses.now a.wedge a.steps a.diagonals.now a.rights.now a.ups.now a.sources.now e
     (wedge_formed a.head a.thicknesses.now a.steps (to_z-of_z c.ranges.wedge) c.form.ensures) (
     record {
-      diagonals_kept = c.form.auto.1.1.1.1.0;
-      rights_kept = c.form.auto.1.1.1.1.1.0;
-      ups_kept = c.form.auto.1.1.1.1.1.1.0;
-      sources_kept = c.form.auto.1.1.1.1.1.1.1.0;
+      diagonals_kept = c.form.auto.diagonals;
+      rights_kept = c.form.auto.rights;
+      ups_kept = c.form.auto.ups;
+      sources_kept = c.form.auto.sources;
     }
     )

@@ -16,8 +16,8 @@ put_bytes-requires c =
 
 pub returns-in-Fine : goal.returns-in-Fine
 returns-in-Fine c =
-    let weights_room : length c.weighed.new.weights ≤ length c.args.weights.now = omega (arith, c.requires.weights_len.0, c.weighed.auto.1.1.1.1.0, few_cells c.args.file.now c.requires.decoded.0 c.requires.decoded.2) in
+    let weights_room : length c.weighed.new.weights ≤ length c.args.weights.now = omega (arith, c.requires.weights_len.0, c.weighed.auto.weights, few_cells c.args.file.now c.requires.decoded.0 c.requires.decoded.2) in
     let thicknesses_room : length c.args.ring.now ≤ length c.args.thicknesses.now = omega (arith, c.requires.weights_len.1, few_thicknesses c.args.file.now c.requires.decoded.0) in
-    rw (to_z-of_z c.fits.wedge)
+    rw (to_z-of_z c.ranges.wedge)
     (film_loaded c.args.file.now c.args.weights.now c.args.thicknesses.now c.weighed.ensures c.requires.decoded.0 c.requires.decoded.1 (ap check_of c.in-Fine.is) weights_room thicknesses_room
     c.put_words.ensures c.put_bytes.ensures.bytes_are)

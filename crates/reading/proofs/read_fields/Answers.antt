@@ -19,7 +19,7 @@ use Rattle.values.proofs.Parts.{part_is}
 use Rattle.reading.specs.Reading.{Decoded}
 use Rattle.reading.proofs.Numbers.{Whole, fields_whole}
 use Rattle.reading.proofs.read_fields.Goals as goal
-use mir.Syntax.{w64}
+use mir.Syntax.{w32, w64}
 
 pub slice_bounds-hand_over-end : goal.slice_bounds-hand_over-end
 slice_bounds-hand_over-end c =
@@ -60,4 +60,4 @@ hand_over-requires-clause-decoded c =
           steps_are = c.steps_in-steps.ensures ∙ (λ i. steps_of (part_at steps_field l (end_offset (carried_is i) (ring_is i))));
         } in
     let wedge_is : c.signed-wedge.result ≡ (numbers_in c.args.file.now).wedge = c.signed-wedge.ensures ∙ ap signed_of c.long_at.ensures ∙ (λ i. signed_of (long_at c.args.file.now (wedge_offset (carried_is i) (ring_is i)))) in
-    (decoded, to_z-of_z {w = w64} (sfits_of c.signed-wedge.type_inv) ∙ wedge_is, length-take-le _ _ few ∙ c.area-n.ensures)
+    (decoded, to_z-of_z {w = w32} (sfits_of c.signed-wedge.type_inv) ∙ wedge_is, length-take-le _ _ few ∙ c.area-n.ensures)

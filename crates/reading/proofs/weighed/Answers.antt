@@ -24,10 +24,22 @@ use Rattle.reading.proofs.Numbers.{ringed, stepped, few_cells, cells_are, weight
 use Rattle.reading.proofs.weighed.Goals as goal
 
 pub search_gauged-requires-clause-ringed : goal.search_gauged-requires-clause-ringed
-search_gauged-requires-clause-ringed c = ?
+search_gauged-requires-clause-ringed c =
+    let l = c.args.file.now in
+    let D = c.requires.0 in
+    (ringed l D, subst Stepped (ap factors_of c.in-Absent.is) (stepped l D), c.requires.1)
 
 pub search_gauged-requires-clause-by_index : goal.search_gauged-requires-clause-by_index
-search_gauged-requires-clause-by_index c = ?
+search_gauged-requires-clause-by_index c = limited c.args.file.now c.requires.0 (ap factors_of c.in-Absent.is)
+
+pub search_gauged-requires-in-Given-clause-ringed : goal.search_gauged-requires-in-Given-clause-ringed
+search_gauged-requires-in-Given-clause-ringed c =
+    let l = c.args.file.now in
+    let D = c.requires.0 in
+    (ringed l D, subst Stepped (ap factors_of c.in-Given.is) (stepped l D), c.requires.1)
+
+pub search_gauged-requires-in-Given-clause-by_index : goal.search_gauged-requires-in-Given-clause-by_index
+search_gauged-requires-in-Given-clause-by_index c = limited c.args.file.now c.requires.0 (ap factors_of c.in-Given.is)
 
 pub returns-in-Absent : goal.returns-in-Absent
 returns-in-Absent c =
@@ -52,7 +64,7 @@ pub dominance_test-requires : goal.dominance_test-requires
 dominance_test-requires c =
     let l = c.args.file.now in
     let D = c.requires.0 in
-    (ringed l D, c.weights_in.auto.1.1.0 ∙ c.requires.1, stepped l D)
+    (ringed l D, c.weights_in.auto.weights ∙ c.requires.1, stepped l D)
 
 pub returns : goal.returns
 returns c =
@@ -60,6 +72,6 @@ returns c =
     let l = c.args.file.now in
     let exit = c.weights_in.new.weights in
     let n = length c.args.weights.now in
-    let whole = take_all n exit (omega (arith, c.weights_in.auto.1.1.0)) in
+    let whole = take_all n exit (omega (arith, c.weights_in.auto.weights)) in
     let cells = c.requires.1 ∙ cells_are l c.requires.0 in
     weighs_standing l c.requires.0 some (sym whole ∙ c.weights_in.ensures ∙ ap (λ (k : ℕ). tabulate k (λ i. word_at l (weights_offset + 2 * i))) cells) c.dominance_test.ensures
