@@ -4,6 +4,7 @@
 // specs/Lent has the promises that stand in their `ensures`, beside those of crates `told`, `tell` and `tell_files`. proofs/Demand leads from
 // them to the records that demand 3 is stated of (crate `model`: Session, Demand): it holds of every list of `film_run` and `film_propose`.
 #![tactic(auto)]
+
 ghost use Rattle.std.specs.Prelude.{◌≡◌};
 ghost use Rattle.archive.specs.Lent.{lent_head, lent_steps};
 

@@ -4,6 +4,7 @@
 //
 // Proved: each function equals document 01's definition (crate `model`), within limits that leave every sum room.
 #![tactic(auto)]
+
 ghost use Rattle.std.specs.Prelude.{◌≡◌, ◌≤◌, ◌*◌, ◌^◌, max};
 ghost use Rattle.std.proofs.Math.IntN.{sub_ℕ};
 ghost use Rattle.model.specs.Integers.{positive_part, negative_part};

@@ -4,6 +4,7 @@
 //
 // Proved: each step is document 01's, float by float in the order of its text (crate `model`: Estimate).
 #![tactic(auto)]
+
 ghost use Rattle.std.specs.Prelude.{◌≡◌, true, ◌||◌, ◌≤◌, ◌^◌, ltb, pos, neg_ℤ, ◌+ℤ◌, nat_abs};
 ghost use Rattle.model.specs.Integers.{negative};
 ghost use Rattle.model.specs.Film.{slack_of};

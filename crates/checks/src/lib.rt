@@ -6,6 +6,7 @@
 // that the types can hold: no public function asks anything of its caller. So the first test that fails wins, at its lowest place.
 // Only the tests of values ask that those before them have passed, and no other crate calls these.
 #![tactic(auto)]
+
 ghost use Rattle.std.specs.Prelude.{◌≡◌};
 ghost use Rattle.model.specs.Refusals.{check_of};
 ghost use Rattle.model.specs.Film.{film_of};

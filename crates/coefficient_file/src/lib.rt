@@ -4,6 +4,7 @@
 // Proved: the reader's whole answer and the five lent buffers, and the writer's answer and the lent slice, are those of crate `model`
 // (LoadsCoefficients, coefficient_save_call). Its proofs/CoefficientInverse: what one call wrote the other reads back, and the other way round.
 #![tactic(auto)]
+
 ghost use Rattle.std.specs.Prelude.{◌≡◌};
 ghost use Rattle.model.specs.Refusals.{check_of};
 ghost use Rattle.model.specs.Film.{film_of};

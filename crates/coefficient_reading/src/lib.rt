@@ -3,6 +3,7 @@
 //
 // Proved: answer and lent buffers are those of crate `model`, by what these tests and the search find (`LoadsFilm`).
 #![tactic(auto)]
+
 ghost use Rattle.std.specs.Prelude.{◌≡◌, ◌+◌, ◌*◌, ◌≤◌, length};
 ghost use Rattle.model.specs.Refusals.{pass};
 ghost use Rattle.model.specs.File.{fields_check};

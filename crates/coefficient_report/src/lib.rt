@@ -3,6 +3,7 @@
 //
 // Proved: the text is that of crate `model` for what the reader answers (`report_by`), byte for byte.
 #![tactic(auto)]
+
 ghost use Rattle.model.specs.CoefficientFile.{read_coefficients};
 ghost use Rattle.model.specs.Report.{report_by};
 ghost use Rattle.text.specs.Writes.{Fits, Writes};

@@ -4,6 +4,7 @@
 // Proved: what each test finds, read as the model's check by `check_of`, equals the check that crate `model` defines. `writer_tests` asks
 // nothing of its caller. The places of 4, 5 and 6 are offsets in the file, those of 14 and 9 cells; that of 10 is 0.
 #![tactic(auto)]
+
 ghost use Rattle.std.specs.Prelude.{◌≡◌, ◌&&◌};
 ghost use Rattle.model.specs.Refusals.{check_of};
 ghost use Rattle.model.specs.Film.{film_of};

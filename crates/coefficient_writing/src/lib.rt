@@ -4,6 +4,7 @@
 // Proved: each field's bytes are those that crate `model` gives it (`field`), written at its offset and nowhere else; the seven fill the
 // slice and are the film's file (`coefficient_file_of`).
 #![tactic(auto)]
+
 ghost use Rattle.std.specs.Prelude.{◌≡◌, [], ◌∷◌, ◌+◌, ◌*◌, ◌≤◌, length};
 ghost use Rattle.std.proofs.lemmas.List.Edits.{sets};
 ghost use Rattle.model.specs.Bytes.{long, listed};

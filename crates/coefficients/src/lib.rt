@@ -3,6 +3,7 @@
 //
 // Proved: the whole answer, and the four slices, are those of crate `model` (Forms).
 #![tactic(auto)]
+
 ghost use Rattle.model.specs.FileCalls.{gauge_of, form_answer_of, Forms};
 
 use model::{Formed, Head, Steps, Tested};

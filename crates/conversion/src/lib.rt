@@ -4,6 +4,7 @@
 // Proved: the whole answer, and the lent slice, are those of crate `model` (convert_call). Its proofs/CoefficientFile: these bytes read as the film
 // that forming gives (`converted_reads`).
 #![tactic(auto)]
+
 ghost use Rattle.std.specs.Prelude.{◌≡◌, length};
 ghost use Rattle.model.specs.Gauge.{factors_of, Stepped};
 ghost use Rattle.model.specs.Coefficients.{formed};

@@ -1,6 +1,7 @@
 // Refusal 9, of films given by coefficients: the weighted row sum of each cell, row by row, which shows that the matrix is Minkowski.
 // Internal: crates `checks` and `coefficient_tests` call it where the coefficients are within their limits. Crate `row_sums` has that test for thicknesses.
 #![tactic(auto)]
+
 ghost use Rattle.std.specs.Prelude.{◌≡◌, cond, ◌+◌, ◌-◌, ◌*◌, ◌≤◌, ◌<◌, ltb, length, get_or};
 ghost use Rattle.model.specs.Refusals.{pass, check_of};
 ghost use Rattle.model.specs.Checks.{not_dominant, dominance_check};

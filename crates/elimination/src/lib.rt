@@ -3,6 +3,7 @@
 //
 // Proved: each step is document 01's, and so is the line's end (crate `model`: Estimate).
 #![tactic(auto)]
+
 ghost use Rattle.std.specs.Prelude.{◌≡◌, [], ◌+◌, ◌-◌, ◌≤◌, ◌<◌, length};
 ghost use Rattle.model.specs.Film.{film_of};
 ghost use Rattle.chain.specs.Line.{elimination_of, recall};

@@ -4,6 +4,7 @@
 // Proved: it equals document 01's definition (crate `model`: Estimate). No claim on a field rests on these numbers: a line proposal is
 // taken by exact test, whatever made it.
 #![tactic(auto)]
+
 ghost use Rattle.std.specs.Prelude.{◌≡◌, ◌+◌, ◌≤◌, length};
 ghost use Rattle.monotone.specs.Rule.{Bounded};
 ghost use Rattle.model.specs.Lists.{tabulate};

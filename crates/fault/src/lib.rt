@@ -1,6 +1,7 @@
 // Why a call is refused, and the refusal's number in the documents' tables (specs/Numbers). A crate of its own below `model`, so that what is
 // checked there anew for each must-fail edit of a definition is definitions and their laws alone.
 #![tactic(auto)]
+
 ghost use Rattle.std.specs.Prelude.{◌≡◌};
 ghost use Rattle.fault.specs.Numbers.{number_of};
 

@@ -6,6 +6,7 @@
 // behind this one (`Tries`), at every offset of every file. Values are tested once the whole body is there (crate `values`); so no file that
 // is cut short needs a case of its own.
 #![tactic(auto)]
+
 ghost use Rattle.std.specs.Prelude.{◌≤◌};
 ghost use Rattle.model.specs.File.{shape_field, ceiling_field, weights_field, thicknesses_field, wedge_field, steps_field};
 ghost use Rattle.fields.specs.Tags.{plain_field, field_for, Tries, Room};

@@ -4,6 +4,7 @@
 // Proved: the reader's whole answer and both lent buffers, and the writer's answer and the lent slice, are those of crate `model`
 // (Loads, save_call). proofs/Inverse: what one call wrote the other reads back, and what was read is written back as it was.
 #![tactic(auto)]
+
 ghost use Rattle.std.specs.Prelude.{◌≡◌};
 ghost use Rattle.model.specs.Refusals.{check_of};
 ghost use Rattle.model.specs.Result.{Gives};

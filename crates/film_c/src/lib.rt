@@ -10,5 +10,6 @@
 // (run_call, Loads, ..), told as specs/ of crates `tell`, `tell_files`, `archive` and `told` say. As the calls themselves, they ask nothing of
 // their caller.
 #![tactic(auto)]
+
 mod files; // files.rt: the calls on gauged films' files, and the report
 mod runs; // runs.rt: the run

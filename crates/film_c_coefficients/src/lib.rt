@@ -6,6 +6,7 @@
 // (LoadsCoefficients, coefficient_save_call, convert_call), told as specs/ of crates `tell_files`, `archive` and `told` say. As the calls
 // themselves, they ask nothing of their caller.
 #![tactic(auto)]
+
 ghost use Rattle.model.specs.Result.{refusal_in};
 ghost use Rattle.model.specs.Film.{film_of};
 ghost use Rattle.model.specs.FileCalls.{gauge_of};

@@ -5,6 +5,7 @@
 // Proved: the returned number, and what each lent number and slice holds at exit, are those that crate `model` gives the call (Forms), told as
 // specs/ of crates `tell_files`, `archive` and `told` say. As the call itself, it asks nothing of its caller.
 #![tactic(auto)]
+
 ghost use Rattle.model.specs.FileCalls.{gauge_of};
 ghost use Rattle.archive.specs.Lent.{lent_head, lent_steps, FormTold};
 

@@ -4,6 +4,7 @@
 // Proved: the returned number, and what each lent number, array and slice holds at exit, are those that crate `model` gives the call
 // (slack_call, propose_call, ..), told as specs/ of crates `tell` and `told` say. As the calls themselves, they ask nothing of their caller.
 #![tactic(auto)]
+
 ghost use Rattle.model.specs.Result.{refusal_in};
 ghost use Rattle.model.specs.Film.{film_of};
 ghost use Rattle.model.specs.Relaxation.{relax_call, slack_call};

@@ -2,6 +2,7 @@
 //
 // Proved: the text is that of crate `model` (film_report), byte for byte.
 #![tactic(auto)]
+
 ghost use Rattle.std.specs.Prelude.{◌≡◌, ◌*◌, replicate};
 ghost use Rattle.model.specs.Film.{film_of};
 ghost use Rattle.model.specs.Accepted.{Accepted};

@@ -1,6 +1,7 @@
 // The coefficients that thicknesses, wedge and grid steps form: the thicknesses around a cell, and a film's coefficients, row by row into four lent slices.
 // Internal: the public call `form` and the report write them all, and crate `row_sums` takes the thicknesses around a cell.
 #![tactic(auto)]
+
 ghost use Rattle.std.specs.Prelude.{◌≡◌, [], ◌-◌, ◌*◌, ◌≤◌};
 ghost use Rattle.model.specs.Gauge.{factors_of, by_factors, Stepped};
 ghost use Rattle.model.specs.FileCalls.{gauge_of, bare_of};

@@ -4,6 +4,7 @@
 // Proved: what each test finds, read as the model's check by `check_of`, equals the check that crate `model` defines. `gauge_tests` asks
 // nothing of its caller. A refusal's place is the number's place in the film file; that of 9 is the cell, and that of 10 is 0.
 #![tactic(auto)]
+
 ghost use Rattle.std.specs.Prelude.{◌≡◌, ◌&&◌};
 ghost use Rattle.model.specs.Refusals.{pass, check_of};
 ghost use Rattle.model.specs.Checks.{shape_check};

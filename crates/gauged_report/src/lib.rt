@@ -3,6 +3,7 @@
 //
 // Proved: the text is that of crate `model` for what the reader answers (`report_by`), byte for byte.
 #![tactic(auto)]
+
 ghost use Rattle.std.specs.Prelude.{◌≡◌, true};
 ghost use Rattle.model.specs.Refusals.{pass};
 ghost use Rattle.model.specs.Coefficients.{formed};

@@ -3,6 +3,7 @@
 //
 // Proved: what is found is what crate `model` says of a header (`field_at`), at every offset of every file, and of the weights (`weightless`, `carried`).
 #![tactic(auto)]
+
 ghost use Rattle.std.specs.Prelude.{◌≡◌, ◌≤◌};
 ghost use Rattle.model.specs.Refusals.{check_of};
 ghost use Rattle.model.specs.Fields.{field_at};

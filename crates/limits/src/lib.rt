@@ -2,6 +2,7 @@
 // grid. Internal: crates `checks` and `coefficient_tests` call it where shape and lengths have passed. That sums fit, and that a cell's neighbours are found by
 // index alone, rests on it in all later crates.
 #![tactic(auto)]
+
 ghost use Rattle.std.specs.Prelude.{◌≡◌, ◌&&◌, ◌+◌, ◌-◌, ◌*◌, ◌≤◌, ltb, leb, nat_abs};
 ghost use Rattle.model.specs.Limits.{source_limit};
 ghost use Rattle.model.specs.Refusals.{pass, check_of};

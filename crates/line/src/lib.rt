@@ -3,6 +3,7 @@
 //
 // Proved: the whole answer, and the lent field, are those of crate `model` (propose_call).
 #![tactic(auto)]
+
 ghost use Rattle.std.specs.Prelude.{◌≡◌};
 ghost use Rattle.model.specs.Film.{film_of};
 ghost use Rattle.model.specs.Result.{answered, Gives};

@@ -4,6 +4,7 @@
 // Proved: what is found, read as the model's check by `check_of`, equals `row_check` of a list of `length` numbers, for all values that the
 // types can hold.
 #![tactic(auto)]
+
 ghost use Rattle.std.specs.Prelude.{◌≡◌};
 ghost use Rattle.model.specs.Refusals.{check_of};
 ghost use Rattle.model.specs.Film.{film_of};

@@ -3,6 +3,7 @@
 //
 // Proved: the whole answer, and the lent slice, are those of crate `model` (margin_call, estimate_call).
 #![tactic(auto)]
+
 ghost use Rattle.std.specs.Prelude.{◌≡◌};
 ghost use Rattle.model.specs.Film.{film_of};
 ghost use Rattle.model.specs.Result.{Gives};

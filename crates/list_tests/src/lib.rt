@@ -4,6 +4,7 @@
 // Proved: what each test finds, read as the model's check by `check_of`, equals the check that crate `model` defines; a list's test is a search
 // for the lowest place (refusals/proofs/Search).
 #![tactic(auto)]
+
 ghost use Rattle.std.specs.Prelude.{◌≡◌, ◌+◌, ◌*◌, ◌≤◌, ltb, leb, eqb, nat_abs, length, get_or};
 ghost use Rattle.model.specs.Limits.{thickness_limit, wedge_limit};
 ghost use Rattle.model.specs.Refusals.{check_of, fail_if, fail_first};

@@ -3,6 +3,7 @@
 //
 // Proved: it is the least whole number that document 01 asks for (crate `model`: Margin), and does not depend on the sources.
 #![tactic(auto)]
+
 ghost use Rattle.std.specs.Prelude.{◌≡◌, List, [], ◌≤◌, ◌<◌, ◌^◌, ℤ, length};
 ghost use Rattle.monotone.specs.Linear.{required_of};
 ghost use Rattle.model.specs.Film.{film_of};

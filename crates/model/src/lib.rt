@@ -7,6 +7,7 @@
 // a film which passes its tests makes every call a good one, and that the formed coefficients are Reynolds' difference
 // form; that reader and writer undo each other; demand 3, of films and of the calls themselves; and film F's edges as one theorem.
 #![tactic(auto)]
+
 use fault::Fault;
 
 // A film's shape and ceiling.

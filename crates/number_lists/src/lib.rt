@@ -1,6 +1,7 @@
 // Lists of numbers of 4 bytes and of signed numbers of 8: read from a file into a table, written as bytes, and copied into a lent buffer.
 // Internal: the reader and the writer of coefficient film files call it.
 #![tactic(auto)]
+
 ghost use Rattle.std.specs.Prelude.{◌≡◌, ◌+◌, ◌*◌, ◌≤◌, length, take};
 ghost use Rattle.std.proofs.lemmas.List.Edits.{sets};
 ghost use Rattle.model.specs.Bytes.{long, listed};

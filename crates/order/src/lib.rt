@@ -1,5 +1,6 @@
 // The table of an ordering: the cell that each place of a round relaxes.
 #![tactic(auto)]
+
 ghost use Rattle.std.specs.Prelude.{◌≡◌, ◌+◌, ◌≤◌, ◌<◌, ◌^◌, length, take};
 ghost use Rattle.monotone.specs.Ordering.{picks};
 ghost use Rattle.model.specs.Lists.{tabulate};

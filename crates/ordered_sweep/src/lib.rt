@@ -3,6 +3,7 @@
 //
 // Proved: answer, counts and field are those of the film's own sweep in that ordering (crate `model`: Run).
 #![tactic(auto)]
+
 ghost use Rattle.std.specs.Prelude.{◌≡◌, List, [], ℕ, ◌*◌, ◌^◌, ◌<◌, length};
 ghost use Rattle.monotone.specs.Sweep.{begin, sweep as sweep_of};
 ghost use Rattle.model.specs.Film.{film_of, rule};

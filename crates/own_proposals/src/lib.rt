@@ -3,6 +3,7 @@
 //
 // Proved: the field and the number of raised cells are those of document 01's run with proposals (crate `model`: Run).
 #![tactic(auto)]
+
 ghost use Rattle.std.specs.Prelude.{◌≡◌, ◌≤◌, length};
 ghost use Rattle.monotone.specs.Rule.{Bounded};
 ghost use Rattle.model.specs.Film.{film_of, rule};

@@ -3,6 +3,7 @@
 //
 // Proved: each part is the theory's (crate `monotone`): a relaxation by cases, its counts, and that a whole round of quiet ones ends.
 #![tactic(auto)]
+
 ghost use Rattle.std.specs.Prelude.{◌≡◌, ◌<◌, length};
 ghost use Rattle.monotone.specs.Sweep.{relax, next};
 ghost use Rattle.pointwise.specs.Relaxation.{Room, count_after, kind_of, judge_by, RelaxedAt};

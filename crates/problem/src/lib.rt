@@ -3,6 +3,7 @@
 //
 // Proved: the whole answer, and the field, are those of crate `model` (relax_call, slack_call).
 #![tactic(auto)]
+
 ghost use Rattle.std.specs.Prelude.{◌≡◌, List, [], ℕ, ◌*◌, ◌<◌, length};
 ghost use Rattle.model.specs.Film.{film_of};
 ghost use Rattle.model.specs.Accepted.{Limited};

@@ -4,6 +4,7 @@
 // Proved: the answer, its count and the field are document 01's. The new field is made in a buffer and the lent one is written
 // only after the tests, so a rejected proposal leaves it alone.
 #![tactic(auto)]
+
 ghost use Rattle.std.specs.Prelude.{◌≡◌, List, [], ℕ, ◌+◌, ◌-◌, ◌*◌, ◌≤◌, length};
 ghost use Rattle.model.specs.Film.{film_of};
 ghost use Rattle.model.specs.Accepted.{Limited};

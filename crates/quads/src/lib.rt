@@ -1,6 +1,7 @@
 // Numbers of 8 bytes, big-endian, at a slice's start, which has their bytes, signed, in two's complement; and written into a lent slice.
 // Internal: the readers and writers of lists of numbers call it.
 #![tactic(auto)]
+
 ghost use Rattle.std.specs.Prelude.{◌≡◌, ◌+◌, ◌*◌, ◌≤◌, length};
 ghost use Rattle.std.proofs.lemmas.List.Edits.{sets};
 ghost use Rattle.model.specs.Bytes.{quad_at, quad, signed_quad, unsigned_quad};

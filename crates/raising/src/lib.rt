@@ -3,6 +3,7 @@
 //
 // Proved: the new field, the count and the answer are those of document 01's definitions (crate `model`: Proposal).
 #![tactic(auto)]
+
 ghost use Rattle.std.specs.Prelude.{◌≡◌, cond, ◌+◌, ◌-◌, ◌≤◌, ◌<◌, ◌^◌, leb, ltb, length, get_or, take};
 ghost use Rattle.model.specs.Lists.{tabulate, count_below, all_below};
 ghost use Rattle.model.specs.Proposal.{raised_at, rises};

@@ -3,6 +3,7 @@
 //
 // Proved: answer and lent buffers are those of crate `model`, by what the test of 9, or the search, finds (`LoadsBy`).
 #![tactic(auto)]
+
 ghost use Rattle.std.specs.Prelude.{◌≡◌, ◌+◌, ◌*◌, ◌≤◌, length, take};
 ghost use Rattle.model.specs.Lists.{tabulate};
 ghost use Rattle.model.specs.Refusals.{pass};

@@ -5,6 +5,7 @@
 // Proved: what each test finds, read as the model's check by `check_of`, equals the check that crate `model` defines. proofs/Search has
 // the search for the lowest place, proofs/Rows the same row by row, and proofs/Chain how a call that matches on a test goes on.
 #![tactic(auto)]
+
 ghost use Rattle.std.specs.Prelude.{◌≡◌, not};
 ghost use Rattle.fault.specs.Numbers.{number_of};
 ghost use Rattle.model.specs.Refusals.{check_of, fail_if, ◌or_else◌};

@@ -3,6 +3,7 @@
 //
 // Proved: the field and the counts are those of a relaxation to what the cell requires under the film's rule, read by index.
 #![tactic(auto)]
+
 ghost use Rattle.std.specs.Prelude.{◌<◌, length};
 ghost use Rattle.monotone.specs.Sweep.{relax};
 ghost use Rattle.pointwise.specs.Relaxation.{Room, Stepped, Relaxes};

@@ -3,6 +3,7 @@
 //
 // Proved: what is written into the lent slice is exactly the text that crate `model` defines (model/specs/Report).
 #![tactic(auto)]
+
 ghost use Rattle.std.specs.Prelude.{◌≡◌, List, [], ◌++◌, ℕ, ◌+◌, ◌*◌, ◌/◌, ◌%◌, ◌≤◌, ◌<◌, length};
 ghost use Rattle.fault.specs.Numbers.{number_of};
 ghost use Rattle.model.specs.Film.{film_of};

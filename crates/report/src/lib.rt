@@ -5,6 +5,7 @@
 // Proved: the answer, and the lent buffer, are those of crate `model` (report_call): the text that `report_of` gives for the file's
 // bytes, byte for byte, and nothing beyond it has changed.
 #![tactic(auto)]
+
 ghost use Rattle.std.specs.Prelude.{◌≡◌};
 ghost use Rattle.model.specs.Result.{Gives};
 ghost use Rattle.model.specs.EitherFile.{tagged06};

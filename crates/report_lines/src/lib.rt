@@ -3,6 +3,7 @@
 //
 // Proved: the slice then holds exactly the text that crate `model` defines, and no other place of it has changed.
 #![tactic(auto)]
+
 ghost use Rattle.model.specs.Report.{◌␣◌, line, decimal, signed};
 ghost use Rattle.text.specs.Writes.{Fits, Writes};
 ghost use Rattle.report_lines.specs.Lines.{pair, head_text, cell_text, peak_text};

@@ -2,6 +2,7 @@
 // coefficients is made for it, since clearing one costs more than a small film's whole test. Internal: crates `gauge` and `file`
 // call it where all other tests have passed. Crate `dominance` has that test for coefficients.
 #![tactic(auto)]
+
 ghost use Rattle.std.specs.Prelude.{◌≡◌, ◌+◌, ◌-◌, ◌*◌, ◌≤◌, ℤ, pos, length};
 ghost use Rattle.model.specs.Refusals.{pass, check_of};
 ghost use Rattle.model.specs.Gauge.{factors_of, by_factors, Stepped};

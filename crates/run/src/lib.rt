@@ -4,6 +4,7 @@
 //
 // Proved: the whole answer with its counts, and the field, are those of crate `model` (run_call).
 #![tactic(auto)]
+
 ghost use Rattle.model.specs.Film.{film_of};
 ghost use Rattle.model.specs.Result.{Gives};
 ghost use Rattle.model.specs.Run.{run_answer_of, run_call};

@@ -3,6 +3,7 @@
 //
 // Rows and columns run from 1; a cell's index runs from 0, by rows.
 #![tactic(auto)]
+
 ghost use Rattle.std.specs.Prelude.{◌≡◌, ◌+◌, ◌-◌, ◌*◌, ◌≤◌, ◌<◌};
 
 use model::Head;

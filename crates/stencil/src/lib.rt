@@ -4,6 +4,7 @@
 // Proved: each number is document 01's (crate `model`: Coefficients), and fits its type whatever thicknesses of 8 bits and wedge number of 32 it is made of,
 // with factors within their limits. What `links_of` and its callees work with has 32 bits or fewer, by their MIR (proofs/Widths).
 #![tactic(auto)]
+
 ghost use Rattle.std.specs.Prelude.{◌≡◌, cond, ◌+◌, ◌*◌, ◌≤◌};
 ghost use Rattle.model.specs.Gauge.{factors_of, Stepped};
 ghost use Rattle.stencil.specs.Cell.{links_by, links_of, source_of, coefficients_of};

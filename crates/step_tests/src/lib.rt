@@ -3,6 +3,7 @@
 // Proved: what each test finds, read as the model's check by `check_of`, equals the check that crate `model` defines. Where a film has no field for its
 // steps, nothing is looked at.
 #![tactic(auto)]
+
 ghost use Rattle.std.specs.Prelude.{◌≡◌, ◌≤◌};
 ghost use Rattle.model.specs.Refusals.{check_of};
 ghost use Rattle.model.specs.File.{factors_from, steps_check};

@@ -3,6 +3,7 @@
 //
 // Proved: the numbers are document 01's estimate of the line, float by float in the order of its text (crate `model`: Estimate).
 #![tactic(auto)]
+
 ghost use Rattle.std.specs.Prelude.{◌≡◌, ◌+◌, ◌-◌, ◌*◌, ◌≤◌, length};
 ghost use Rattle.model.specs.Estimate.{substitute as substitute_of, whole_part};
 ghost use Rattle.chain.specs.Line.{elimination_of, recall};

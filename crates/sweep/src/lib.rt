@@ -3,6 +3,7 @@
 //
 // Proved: the answer, its counts and the field are those of the theory's sweep under the film's rule, read by index.
 #![tactic(auto)]
+
 ghost use Rattle.std.specs.Prelude.{◌≡◌, ◌<◌, length};
 ghost use Rattle.grid.specs.Pull.{Aligned};
 ghost use Rattle.pointwise.specs.Relaxation.{Room};

@@ -8,6 +8,7 @@
 // Proved: the number returned is 0 or the refusal's, and each lent number and array holds what specs/ says of the answer. A refusal
 // writes its place and nothing else; an answer leaves the place as it was.
 #![tactic(auto)]
+
 ghost use Rattle.model.specs.Result.{refusal_in};
 ghost use Rattle.model.specs.Relaxation.{relax_answer_of, slack_answer_of};
 ghost use Rattle.model.specs.Margin.{margin_answer_of};

@@ -7,6 +7,7 @@
 // Proved: the number returned is 0 or the refusal's, and each lent number and array holds what specs/ says of the answer. A refusal
 // writes its place and nothing else; an answer leaves the place as it was.
 #![tactic(auto)]
+
 ghost use Rattle.std.specs.Prelude.{◌≡◌};
 ghost use Rattle.model.specs.Result.{refusal_in};
 ghost use Rattle.model.specs.FileCalls.{load_answer_of, save_answer_of, form_answer_of};

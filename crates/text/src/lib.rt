@@ -3,6 +3,7 @@
 //
 // Proved: the slice then holds exactly the text that crate `model` defines (Writes), and no other place of it has changed.
 #![tactic(auto)]
+
 ghost use Rattle.std.specs.Prelude.{[], ◌∷◌};
 ghost use Rattle.model.specs.Report.{decimal, signed};
 ghost use Rattle.text.specs.Writes.{Fits, Writes};

@@ -4,6 +4,7 @@
 // Proved: the answer is document 01's (crate `model`: Proposal). Proposed pressures may be any 32-bit numbers: loading a cell leaves room
 // for them.
 #![tactic(auto)]
+
 ghost use Rattle.std.specs.Prelude.{◌≡◌, not, ◌||◌, List, [], ℕ, ◌*◌, ◌<◌, length};
 ghost use Rattle.model.specs.Integers.{at_most_zero};
 ghost use Rattle.model.specs.Film.{film_of, slack};

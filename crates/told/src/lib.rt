@@ -1,5 +1,6 @@
 // How a caller in C is told of a refusal: by its number in document 01's table and its place. Internal: crates `tell` and `tell_files` use it.
 #![tactic(auto)]
+
 ghost use Rattle.std.specs.Prelude.{◌≡◌};
 ghost use Rattle.fault.specs.Numbers.{number_of};
 ghost use Rattle.model.specs.Refusals.{fail};

@@ -2,6 +2,7 @@
 //
 // Proved: what each finds is what crate `model` says of the numbers at that offset, at every offset of every file.
 #![tactic(auto)]
+
 ghost use Rattle.std.specs.Prelude.{◌≡◌, ◌+◌, ◌*◌, ◌≤◌, length};
 ghost use Rattle.model.specs.Refusals.{check_of};
 ghost use Rattle.model.specs.Checks.{shape_check, ceiling_check};

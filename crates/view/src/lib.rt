@@ -7,6 +7,7 @@
 // view is taken apart, moved on and made in three thin functions (`viewed`, `moved`, `walk`), whose proofs are walks by hand; all else is
 // covered.
 #![tactic(auto)]
+
 ghost use Rattle.std.specs.Prelude.{◌≡◌, ◌≤◌, ◌<◌, eqb};
 ghost use Rattle.model.specs.Refusals.{check_of};
 ghost use Rattle.model.specs.File.{fields_check};

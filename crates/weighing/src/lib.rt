@@ -4,6 +4,7 @@
 // Proved: what the search finds, weights or a refusal, is what crate `model` says of that run (`Searches`); its proofs/Weighing: found weights are the least
 // whose weighted row sums are all at least 1, and 16 means that there are none up to 65,535.
 #![tactic(auto)]
+
 ghost use Rattle.std.specs.Prelude.{◌≡◌, List, [], ℕ, ◌*◌, ◌≤◌, ◌<◌, pos, negsuc, length, get_or, replicate};
 ghost use Rattle.model.specs.Refusals.{check_of};
 ghost use Rattle.model.specs.Gauge.{Stepped};

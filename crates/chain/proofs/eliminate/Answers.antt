@@ -3,7 +3,6 @@
 use mathlib.Core.Path.{sym, ◌∙◌}
 use Rattle.model.specs.Estimate.{eliminate}
 use Rattle.chain.proofs.Recall.{idle_recalled}
-use borrow.Author.Rules.{rules}
 use Rattle.chain.proofs.eliminate.Goals as goal
 
 -- a chain begins

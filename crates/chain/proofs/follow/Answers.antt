@@ -1,6 +1,5 @@
 -- `chain::follow` meets its contract: its two floats are those of the model's step from a pivot, operation by operation, and `pivot_if` decides on them.
 use Rattle.model.specs.Estimate.{eliminate}
-use borrow.Author.Rules.{rules}
 use Rattle.chain.proofs.follow.Goals as goal
 
 pub returns : goal.returns

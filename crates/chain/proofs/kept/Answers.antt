@@ -1,6 +1,5 @@
 -- `chain::kept` meets its contract: the literal 0.0 and the whole number 0 are one float.
 use lib.Ieee.{of_bits, of_int}
-use borrow.Author.Rules.{rules}
 use Rattle.chain.proofs.kept.Goals as goal
 
 pub returns-in-Idle : goal.returns-in-Idle

@@ -1,5 +1,4 @@
 -- `checks::field_tests` meets its contract: the tests are the model's, in its order; a field that comes to refusal 12 has N cells, by refusal 10 (`field_own`).
-use borrow.Author.Rules.{rules}
 use Rattle.model.specs.Refusals.{check_of}
 use Rattle.model.specs.Film.{film_of}
 use Rattle.checks.proofs.Own.{field_own}

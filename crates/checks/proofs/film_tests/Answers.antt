@@ -1,11 +1,9 @@
 -- `checks::film_tests` meets its contract: the test of shape, ceiling and lengths is the model's, and a film that passes it is `Sized`, as `value_tests` asks.
 use mathlib.Core.Path.{◌≡◌}
-use borrow.Author.Rules.{rules}
 use Rattle.model.specs.Refusals.{check_of}
 use Rattle.model.specs.Film.{Film, film_of}
 use Rattle.model.specs.Checks.{film_fits, size_check}
-use Rattle.model.proofs.Checks.{size_passes}
-use Rattle.refusals.proofs.Chain.{passed, goes_on, refuses}
+use Rattle.refusals.proofs.Chain.{goes_on, refuses}
 use Rattle.checks.proofs.film_tests.Goals as goal
 
 pub returns-in-Fine : goal.returns-in-Fine

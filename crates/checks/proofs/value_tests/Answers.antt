@@ -3,13 +3,11 @@ use mathlib.Core.Path.{◌≡◌}
 use mathlib.Core.Bool.{Bool}
 use Prim.Native.Nat.{ℕ, ◌+◌, ◌*◌}
 use native.Mathlib.Omega.{arith}
-use borrow.Author.Rules.{rules}
 use Rattle.model.specs.Refusals.{Check, check_of, fail_first}
 use Rattle.model.specs.Lists.{first_of}
 use Rattle.model.specs.Film.{Film, film_of, beside, across, neighbours}
 use Rattle.model.specs.Checks.{bad_coefficient, zero_weight, not_dominant, coefficient_check, weight_check, dominance_check}
 use Rattle.model.proofs.Checks.{coefficient_passes}
-use Rattle.model.proofs.Sides.{cells_low}
 use Rattle.refusals.proofs.Chain.{joined, passed, goes_on, refuses}
 use Rattle.checks.proofs.Parts.{sized_unweighted, limited_sourceless}
 use Rattle.checks.proofs.value_tests.Goals as goal

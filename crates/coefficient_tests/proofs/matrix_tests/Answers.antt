@@ -1,7 +1,6 @@
 -- `coefficient_tests::matrix_tests` meets its contract: both tests are the model's, and coefficients that pass theirs are `Limited`, as that of
 -- dominance asks.
 use mathlib.Core.Path.{◌≡◌}
-use borrow.Author.Rules.{rules}
 use Rattle.model.specs.Refusals.{check_of}
 use Rattle.model.specs.Film.{Film, film_of, beside, across, neighbours}
 use Rattle.model.specs.Checks.{bad_coefficient, not_dominant, coefficient_check, dominance_check}

@@ -1,12 +1,6 @@
 -- `coefficient_writing::put_film` meets its contract: the opening, and behind it the film's own fields, fill the slice (`film_put`).
-use mathlib.Core.Path.{sym, subst}
-use Prim.Native.Nat.{ℕ}
-use native.Mathlib.Omega.{arith}
 use Rattle.model.specs.Film.{film_of}
-use Rattle.model.proofs.Sides.{cells_low}
-use Rattle.coefficient_writing.specs.Writable.{Numbers}
 use Rattle.coefficient_writing.proofs.Film.{film_put}
-use borrow.Author.Rules.{rules}
 use Rattle.coefficient_writing.proofs.put_film.Goals as goal
 
 pub returns : goal.returns

@@ -1,6 +1,5 @@
 -- `coefficient_writing::put_own` meets its contract: four fields, each behind the one before (`own_put`).
 use Rattle.coefficient_writing.proofs.Film.{own_put}
-use borrow.Author.Rules.{rules}
 use Rattle.coefficient_writing.proofs.put_own.Goals as goal
 
 pub returns : goal.returns

@@ -1,10 +1,9 @@
 -- `dominance::dominance_test` meets its contract: a search row by row (`RowsPassed`), where a row that fails fails for all rows, and past the last all pass.
 use mathlib.Core.Bool.{Bool}
 use Prim.Native.Nat.{ℕ, ◌-◌}
-use borrow.Author.Rules.{rules}
 use Rattle.model.specs.Checks.{not_dominant, dominance_check}
 use Rattle.refusals.specs.Parts.{sourceless}
-use Rattle.refusals.proofs.Rows.{RowsPassed, rows_begin, rows_come, rows_next, rows_fail, rows_pass}
+use Rattle.refusals.proofs.Rows.{rows_fail, rows_pass}
 use Rattle.dominance.proofs.dominance_test.Goals as goal
 
 pub returns-in-Refused : goal.returns-in-Refused

@@ -1,10 +1,8 @@
 -- `dominance::dominance_test` meets its contract: a search row by row (`RowsPassed`), where a row that fails fails for all rows, and past the last all pass.
-use mathlib.Core.Bool.{Bool}
-use Prim.Native.Nat.{ℕ, ◌-◌}
-use borrow.Author.Rules.{rules}
-use Rattle.model.specs.Checks.{not_dominant, dominance_check}
+use Prim.Native.Nat.{◌-◌}
+use Rattle.model.specs.Checks.{not_dominant}
 use Rattle.refusals.specs.Parts.{sourceless}
-use Rattle.refusals.proofs.Rows.{RowsPassed, rows_begin, rows_come, rows_next, rows_fail, rows_pass}
+use Rattle.refusals.proofs.Rows.{RowsPassed}
 use Rattle.dominance.proofs.dominance_test.Given as goal
 
 abbrev pub invariant-loop-row : goal.invariant-loop-row

@@ -1,18 +1,16 @@
 -- `dominance::not_dominant` meets its contract: the links read are the cell's (`links_read`), and the comparison says whether its row sum is below 1 (`row_sum`).
--- the links that the code reads are those of the cell: one back counts only where there is a cell
 use mathlib.Core.Path.{◌≡◌, sym, ap, ◌∙◌}
-use mathlib.Core.Bool.{Bool, true, false, cond}
+use mathlib.Core.Bool.{cond}
 use Prim.Native.Nat.{ℕ, ◌-◌, ◌≤◌}
 use native.Mathlib.Omega.{arith}
-use borrow.Author.Rules.{rules}
 use borrow.Author.Tests.{le-ltb}
 use lib.Dec.{ltb}
 use Rattle.model.specs.Film.{Film, diagonal_at, right_at, up_at}
 use Rattle.model.proofs.Sides.{index, Inside, row_end, Linked, row_sum}
-use Rattle.grid.proofs.Limited.{limited_loaded}
 use Rattle.refusals.specs.Parts.{sourceless}
 use Rattle.dominance.proofs.not_dominant.Goals as goal
 
+-- the links that the code reads are those of the cell: one back counts only where there is a cell
 links_read : (f : Film) {r c at left down : ℕ} → Inside f r c → at ≡ index f.columns r c → left ≡ cond (ltb at 1) 0 (right_at f (at - 1))
     → down ≡ cond (ltb at f.columns) 0 (up_at f (at - f.columns)) → Linked f r c left (right_at f at) down (up_at f at)
 links_read f {r} {c} {at} w p l d =

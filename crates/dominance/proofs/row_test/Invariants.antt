@@ -1,11 +1,8 @@
 -- `dominance::row_test` meets its contract: a search (`Searched`) along the row, from where the rows before it have passed, whose test is `not_dominant`.
 use Prim.Native.Nat.{◌+◌, ◌-◌, ◌*◌}
-use native.Mathlib.Omega.{arith}
-use borrow.Author.Rules.{rules}
 use Rattle.model.specs.Checks.{not_dominant}
 use Rattle.refusals.specs.Parts.{sourceless}
 use Rattle.refusals.proofs.Search.{Searched}
-use Rattle.refusals.proofs.Rows.{row_begins, row_next, row_fails, row_passes}
 use Rattle.dominance.proofs.row_test.Given as goal
 
 abbrev pub invariant-loop-i : goal.invariant-loop-i

@@ -1,13 +1,9 @@
 -- `elimination::eliminate_line` meets its contract: after each turn the steps so far are the model's and kept, none of them broken, and the last one
 -- is handed on (`Going`). A broken step ends the loop, since each later one of the model is broken too (`going_broken`).
 use mathlib.Core.Path.{refl, sym, ◌∙◌}
-use mathlib.Core.List.{[]}
 use Prim.Native.Nat.{◌-◌}
-use native.Mathlib.Omega.{arith}
-use borrow.Author.Rules.{rules}
 use lib.Ieee.{of_bits, of_int}
-use Rattle.model.specs.Film.{film_of}
-use Rattle.elimination.proofs.Forward.{Going, going_begin, going_next, going_broken, going_done}
+use Rattle.elimination.proofs.Forward.{going_begin, going_next, going_broken}
 use Rattle.elimination.proofs.eliminate_line.Goals as goal
 
 pub loop-j-init : goal.loop-j-init

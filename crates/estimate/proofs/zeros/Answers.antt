@@ -1,11 +1,8 @@
 -- `estimate::zeros` meets its contract: the table is filled place by place (`Filled` of crate `grid`) with 0, to its end.
-use mathlib.Core.Path.{◌≡◌, refl, sym, ◌∙◌}
-use Prim.Native.Nat.{◌-◌, ◌≤◌}
+use mathlib.Core.Path.{refl}
+use Prim.Native.Nat.{◌-◌}
 use native.Mathlib.Omega.{arith}
-use borrow.Author.Rules.{rules}
-use lib.ListN.{length}
-use lib.Seq.{take_all}
-use Rattle.grid.proofs.Fill.{Filled, fill_none, fill_more}
+use Rattle.grid.proofs.Fill.{fill_more}
 use Rattle.estimate.proofs.zeros.Goals as goal
 
 pub loop-j-preserved : goal.loop-j-preserved

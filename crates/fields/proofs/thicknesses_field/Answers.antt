@@ -1,10 +1,7 @@
 -- `fields::thicknesses_field` meets its contract: as `weights_field` does.
 use native.Mathlib.Omega.{arith}
-use Rattle.model.specs.File.{thicknesses_field}
 use Rattle.model.proofs.Fields.{header}
 use Rattle.refusals.proofs.Chain.{passed}
-use Rattle.fields.proofs.Tags.{field_tried, field_refused}
-use borrow.Author.Rules.{rules}
 use Rattle.fields.proofs.thicknesses_field.Goals as goal
 
 pub thickness_values-requires : goal.thickness_values-requires

@@ -1,10 +1,7 @@
 -- `fields::weights_field` meets its contract: as `shape_field` does; where the header passes, the whole body is there.
 use native.Mathlib.Omega.{arith}
-use Rattle.model.specs.File.{weights_field}
 use Rattle.model.proofs.Fields.{header}
 use Rattle.refusals.proofs.Chain.{passed}
-use Rattle.fields.proofs.Tags.{field_tried, field_refused}
-use borrow.Author.Rules.{rules}
 use Rattle.fields.proofs.weights_field.Goals as goal
 
 pub weight_values-requires : goal.weight_values-requires

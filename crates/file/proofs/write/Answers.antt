@@ -1,5 +1,4 @@
 -- `file::write` meets its contract: the length that it asks for is the file's where the shape has passed (`save_fits`), and what passes is written.
--- what the tests find
 use mathlib.Core.Path.{◌≡◌, sym, ap, ◌∙◌}
 use mir.Facts.{to_z-of_z}
 use Rattle.model.specs.Refusals.{check_of}
@@ -7,7 +6,6 @@ use Rattle.model.specs.Gauge.{Gauge}
 use Rattle.model.specs.FileCalls.{gauge_of, save_check}
 use Rattle.refusals.proofs.Chain.{passed}
 use Rattle.file.proofs.Writing.{save_fits, save_ready, save_passed, save_refused}
-use borrow.Author.Rules.{rules}
 use Rattle.file.proofs.write.Goals as goal
 
 pub put_film-requires : goal.put_film-requires

@@ -1,15 +1,8 @@
 -- `float::floor` meets its contract. The floor of x stays at or above `low` and below `high`; the measure is the gap between them.
 -- Assumes nothing.
-use mathlib.Core.Path.{◌≡◌, sym, ◌∙◌}
-use Prim.Native.Nat.{ℕ, ◌+◌, ◌-◌, ◌/◌, ◌≤◌, ◌<◌}
-use native.Mathlib.Omega.{arith}
-use borrow.Author.Tests.{leb-true, leb-false}
-use lib.Dec.{T, leb, lit≤}
-use lib.Ieee.{le}
-use lib.Ieee.Scale.{finite}
+use Prim.Native.Nat.{◌+◌, ◌-◌, ◌≤◌, ◌<◌}
 use Rattle.model.specs.Limits.{estimate_limit}
-use Rattle.model.specs.Estimate.{float_of, floor_of}
-use Rattle.model.proofs.Estimate.{floor_test, floor_below}
+use Rattle.model.specs.Estimate.{floor_of}
 use Rattle.float.proofs.floor.Given as goal
 
 abbrev pub invariant-loop-low : goal.invariant-loop-low

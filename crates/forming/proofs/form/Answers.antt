@@ -1,16 +1,10 @@
 -- `forming::form` meets its contract: after each turn the cells of the rows so far are written (`Written`), and past the last row all are.
-use mathlib.Core.Path.{◌≡◌, refl}
-use mathlib.Core.List.{[]}
-use Prim.Native.Nat.{◌+◌, ◌-◌, ◌*◌, ◌≤◌}
+use mathlib.Core.Path.{◌≡◌}
+use Prim.Native.Nat.{◌-◌}
 use native.Mathlib.Omega.{arith}
-use borrow.Author.Rules.{rules}
-use mir.Syntax.{w32}
-use mir.Val.{to_z}
 use mir.Facts.{to_z-of_z}
-use Rattle.model.specs.Gauge.{by_factors, Stepped}
-use Rattle.model.specs.FileCalls.{gauge_of}
 use Rattle.forming.proofs.Film.{steps_formed}
-use Rattle.forming.proofs.Written.{Written, written_from, written_to, written_room, written_on}
+use Rattle.forming.proofs.Written.{written_to}
 use Rattle.forming.proofs.form.Goals as goal
 
 pub returns : goal.returns

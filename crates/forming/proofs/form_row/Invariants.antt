@@ -1,18 +1,9 @@
 -- `forming::form_row` meets its contract: each turn writes one more cell at its index (`written_more`), and past the row's end the first row × columns are.
-use mathlib.Core.Path.{◌≡◌, refl}
 use mathlib.Core.List.{[]}
-use Prim.Native.Nat.{ℕ, ◌+◌, ◌-◌, ◌*◌, ◌≤◌, ◌<◌}
-use native.Mathlib.Omega.{arith}
-use lib.Arith.{digits_lt}
-use borrow.Author.Rules.{rules, sfits_of}
-use mir.Syntax.{w32}
-use mir.Val.{to_z}
-use mir.Facts.{to_z-of_z}
+use Prim.Native.Nat.{◌+◌, ◌-◌, ◌*◌, ◌≤◌}
 use Rattle.model.specs.Gauge.{by_factors}
 use Rattle.model.specs.FileCalls.{gauge_of}
-use Rattle.model.proofs.Sides.{row_end, cells_low}
-use Rattle.forming.specs.Cell.{Room}
-use Rattle.forming.proofs.Written.{Written, written_from, written_to, written_room, written_more}
+use Rattle.forming.proofs.Written.{Written}
 use Rattle.forming.proofs.form_row.Given as goal
 
 abbrev pub invariant-loop-i : goal.invariant-loop-i

@@ -3,8 +3,7 @@ use mir.Facts.{to_z-of_z}
 use Rattle.model.specs.Gauge.{Gauge}
 use Rattle.model.specs.FileCalls.{gauge_of}
 use Rattle.gauge.proofs.Tests.{gauge_parts}
-use Rattle.refusals.proofs.Chain.{passed, goes_on, refuses}
-use borrow.Author.Rules.{rules}
+use Rattle.refusals.proofs.Chain.{goes_on, refuses}
 use Rattle.gauge.proofs.gauge_tests.Goals as goal
 
 pub returns-in-Fine : goal.returns-in-Fine

@@ -1,9 +1,6 @@
 -- `gauge::number_tests` meets its contract: its five tests are the model's, in its order, with the lengths and the offsets that the shape gives.
 use Rattle.refusals.proofs.Chain.{joined}
-use Rattle.gauge.proofs.Tests.{weights_low, thicknesses_low}
-use native.Mathlib.Omega.{arith}
 use mir.Facts.{to_z-of_z}
-use borrow.Author.Rules.{rules}
 use Rattle.gauge.proofs.number_tests.Goals as goal
 
 pub returns : goal.returns

@@ -1,6 +1,6 @@
 -- `grid::cell_at` meets its contract: the pull is `pull_at`'s, diagonal and source are read at the index, and the caller grants their limits (`loads`).
 use mir.Facts.{to_z-of_z}
-use borrow.Author.Rules.{rules, sfits_of}
+use borrow.Author.Rules.{sfits_of}
 use Rattle.grid.specs.Pull.{cell_by}
 use Rattle.grid.proofs.Pull.{loads}
 use Rattle.grid.proofs.cell_at.Goals as goal

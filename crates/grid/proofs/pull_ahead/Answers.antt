@@ -1,7 +1,6 @@
 -- `grid::pull_ahead` meets its contract: past the last cell the product is 0 (`ahead_none`), and a link up to 2 ^ 26 times a number of 32 bits stays within 2 ^ 58.
 use mathlib.Core.Path.{sym}
 use native.Mathlib.Omega.{arith}
-use borrow.Author.Rules.{rules}
 use lib.ListN.{get_or}
 use Rattle.grid.specs.Pull.{ahead_of}
 use Rattle.grid.proofs.Pull.{ahead_none, product_small}

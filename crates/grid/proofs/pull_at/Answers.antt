@@ -1,6 +1,5 @@
 -- `grid::pull_at` meets its contract: it is the sum of the four products of `pull_by`, each at most 2 ^ 58, so that the sum is at most 2 ^ 60.
 use native.Mathlib.Omega.{arith}
-use borrow.Author.Rules.{rules}
 use Rattle.grid.specs.Pull.{pull_by}
 use Rattle.grid.proofs.pull_at.Goals as goal
 

@@ -1,7 +1,6 @@
 -- `grid::pull_back` meets its contract: both cases are those of `back_of`, and a link up to 2 ^ 26 times a number of 32 bits stays within 2 ^ 58.
 use mathlib.Core.Path.{sym, ◌∙◌}
 use native.Mathlib.Omega.{arith}
-use borrow.Author.Rules.{rules}
 use lib.ListN.{get_or}
 use Rattle.grid.proofs.Pull.{back_none, back_some, product_small}
 use Rattle.grid.proofs.pull_back.Goals as goal

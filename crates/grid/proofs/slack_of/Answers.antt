@@ -1,9 +1,8 @@
 -- `grid::slack_of` meets its contract: the film's limits let the cell be loaded, and the loaded cell's slack is the film's (`cell_slack`).
 use mathlib.Core.Path.{◌∙◌}
-use native.Mathlib.Omega.{arith}
 use mir.Facts.{to_z-of_z}
-use borrow.Author.Rules.{rules, sfits_of}
-use Rattle.grid.proofs.Limited.{limited_loaded, cell_slack}
+use borrow.Author.Rules.{sfits_of}
+use Rattle.grid.proofs.Limited.{cell_slack}
 use Rattle.grid.proofs.slack_of.Goals as goal
 
 pub returns : goal.returns

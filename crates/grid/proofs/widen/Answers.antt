@@ -1,10 +1,9 @@
 -- `grid::widen` meets its contract: a weight of 16 bits fits 32, and places filled one by one (`Filled`) hold the weights in the end (`fill_copy`).
 use mathlib.Core.Path.{◌≡◌, refl}
-use Prim.Native.Nat.{◌-◌, ◌≤◌}
+use Prim.Native.Nat.{◌-◌}
 use native.Mathlib.Omega.{arith}
-use borrow.Author.Rules.{rules}
-use lib.ListN.{length, get_or}
-use Rattle.grid.proofs.Fill.{Filled, fill_none, fill_more, fill_copy}
+use lib.ListN.{length}
+use Rattle.grid.proofs.Fill.{fill_more, fill_copy}
 use Rattle.grid.proofs.widen.Goals as goal
 
 pub loop-i-preserved : goal.loop-i-preserved

@@ -1,10 +1,7 @@
 -- `grid::widen` meets its contract: a weight of 16 bits fits 32, and places filled one by one (`Filled`) hold the weights in the end (`fill_copy`).
-use mathlib.Core.Path.{◌≡◌, refl}
 use Prim.Native.Nat.{◌-◌, ◌≤◌}
-use native.Mathlib.Omega.{arith}
-use borrow.Author.Rules.{rules}
 use lib.ListN.{length, get_or}
-use Rattle.grid.proofs.Fill.{Filled, fill_none, fill_more, fill_copy}
+use Rattle.grid.proofs.Fill.{Filled}
 use Rattle.grid.proofs.widen.Given as goal
 
 abbrev pub invariant-loop-i : goal.invariant-loop-i

@@ -6,7 +6,6 @@ use borrow.Author.Tests.{lt-ltb, le-ltb}
 use Rattle.model.specs.Fields.{field_at}
 use Rattle.refusals.proofs.Chain.{joined}
 use Rattle.words.proofs.Rest.{word_from}
-use borrow.Author.Rules.{rules}
 use Rattle.headers.proofs.header_test.Goals as goal
 
 pub returns-then-end-at : goal.returns-then-end-at

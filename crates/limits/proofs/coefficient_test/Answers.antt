@@ -1,10 +1,9 @@
 -- `limits::coefficient_test` meets its contract: a search row by row (`RowsPassed`), where the first row refused decides for all, and past the last all have passed.
 use mathlib.Core.Bool.{Bool}
 use Prim.Native.Nat.{ℕ, ◌-◌}
-use borrow.Author.Rules.{rules}
 use Rattle.model.specs.Checks.{bad_coefficient, coefficient_check}
 use Rattle.refusals.specs.Parts.{unweighted}
-use Rattle.refusals.proofs.Rows.{RowsPassed, rows_begin, rows_come, rows_next, rows_fail, rows_pass}
+use Rattle.refusals.proofs.Rows.{rows_fail, rows_pass}
 use Rattle.limits.proofs.coefficient_test.Goals as goal
 
 pub returns-in-Refused : goal.returns-in-Refused

@@ -1,11 +1,7 @@
 -- `limits::row_test` meets its contract: a search (`Searched`) by `bad_coefficient` from the row's first cell on, the rows before having passed.
-use Prim.Native.Nat.{◌+◌, ◌-◌, ◌*◌}
-use native.Mathlib.Omega.{arith}
-use borrow.Author.Rules.{rules}
+use Prim.Native.Nat.{◌-◌}
 use Rattle.model.specs.Checks.{bad_coefficient}
-use Rattle.refusals.specs.Parts.{unweighted}
-use Rattle.refusals.proofs.Search.{Searched}
-use Rattle.refusals.proofs.Rows.{row_begins, row_next, row_fails, row_passes}
+use Rattle.refusals.proofs.Rows.{row_begins, row_next, row_fails}
 use Rattle.limits.proofs.row_test.Goals as goal
 
 pub loop-i-init : goal.loop-i-init

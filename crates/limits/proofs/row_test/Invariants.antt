@@ -1,11 +1,8 @@
 -- `limits::row_test` meets its contract: a search (`Searched`) by `bad_coefficient` from the row's first cell on, the rows before having passed.
 use Prim.Native.Nat.{◌+◌, ◌-◌, ◌*◌}
-use native.Mathlib.Omega.{arith}
-use borrow.Author.Rules.{rules}
 use Rattle.model.specs.Checks.{bad_coefficient}
 use Rattle.refusals.specs.Parts.{unweighted}
 use Rattle.refusals.proofs.Search.{Searched}
-use Rattle.refusals.proofs.Rows.{row_begins, row_next, row_fails, row_passes}
 use Rattle.limits.proofs.row_test.Given as goal
 
 abbrev pub invariant-loop-i : goal.invariant-loop-i

@@ -1,13 +1,11 @@
 -- `line::propose` meets its contract: its tests are the model's, in its order, and what passes them is decided on from the line's first cell on.
--- the start, from the tests
 use mathlib.Core.Path.{◌≡◌, sym, ap, ◌∙◌}
 use native.Mathlib.Omega.{arith}
-use borrow.Author.Rules.{rules}
 use Rattle.model.specs.Refusals.{pass, check_of}
 use Rattle.model.specs.Film.{Film, film_of}
 use Rattle.model.specs.Proposal.{row_check}
 use Rattle.line_checks.proofs.Passed.{LinePassed, line_ready}
-use Rattle.line.proofs.Calls.{propose_passed, propose_refused}
+use Rattle.line.proofs.Calls.{propose_passed}
 use Rattle.line.proofs.propose.Goals as goal
 
 pub line_start-start-requires : goal.line_start-start-requires

@@ -1,11 +1,8 @@
 -- `list_tests::start_test` meets its contract: a search (`Searched`) whose test is the ceiling against the cell's pressure, and whose place is the cell.
 use mathlib.Core.Path.{refl}
 use Prim.Native.Nat.{◌-◌}
-use borrow.Author.Rules.{rules}
 use borrow.Author.Tests.{lt-ltb, le-ltb}
-use lib.Dec.{ltb}
-use lib.ListN.{length, get_or}
-use Rattle.refusals.proofs.Search.{Searched, search_begins, search_next, search_fails, search_passes}
+use Rattle.refusals.proofs.Search.{search_begins, search_next, search_fails}
 use Rattle.list_tests.proofs.start_test.Goals as goal
 
 pub loop-i-init : goal.loop-i-init

@@ -1,10 +1,6 @@
 -- `list_tests::thicknesses_test` meets its contract: a search (`Searched`) whose test is `bad_thickness` and whose places run from `at` on.
-use borrow.Author.Rules.{rules}
 use Prim.Native.Nat.{◌+◌, ◌-◌}
-use lib.ListN.{length, get_or}
-use Rattle.model.specs.Limits.{thickness_limit}
-use Rattle.model.specs.Checks.{outside}
-use Rattle.refusals.proofs.Search.{Searched, search_begins, search_next, search_fails, search_passes}
+use Rattle.refusals.proofs.Search.{search_begins, search_next, search_fails}
 use Rattle.list_tests.proofs.thicknesses_test.Goals as goal
 
 pub loop-i-init : goal.loop-i-init

@@ -1,13 +1,8 @@
 -- `list_tests::weight_test` meets its contract: a search, whose places stay below the bound that the caller grants.
 use mathlib.Core.Path.{refl}
-use Prim.Native.Nat.{◌+◌, ◌-◌, ◌*◌, ◌≤◌}
-use native.Mathlib.Nat.{le_of_lt, mul-le-mul_left}
-use native.Mathlib.Omega.{arith}
-use borrow.Author.Rules.{rules}
+use Prim.Native.Nat.{◌+◌, ◌-◌, ◌*◌}
 use borrow.Author.Tests.{eq-eqb, ne_eqb}
-use lib.Dec.{eqb}
-use lib.ListN.{length, get_or}
-use Rattle.refusals.proofs.Search.{Searched, search_begins, search_next, search_fails, search_passes}
+use Rattle.refusals.proofs.Search.{search_begins, search_next, search_fails}
 use Rattle.list_tests.proofs.weight_test.Goals as goal
 
 pub loop-i-init : goal.loop-i-init

@@ -1,14 +1,11 @@
 -- `margin::greatest_margin` meets its contract. The loop has seen the cells below i.
-use mathlib.Core.Path.{◌≡◌, refl, ap, ◌∙◌}
+use mathlib.Core.Path.{◌≡◌}
 use mathlib.Core.List.{[]}
-use Prim.Native.Nat.{◌-◌, ◌*◌, ◌≤◌}
-use native.Mathlib.Omega.{arith}
-use borrow.Author.Rules.{rules}
+use Prim.Native.Nat.{◌-◌, ◌≤◌}
 use lib.ListN.{length}
 use Rattle.model.specs.Lists.{greatest}
-use Rattle.model.specs.Film.{Film, film_of}
+use Rattle.model.specs.Film.{film_of}
 use Rattle.model.specs.Margin.{margin_at, margin}
-use Rattle.margin.proofs.LeastMargin.{greatest_next}
 use Rattle.margin.proofs.greatest_margin.Given as goal
 
 abbrev pub invariant-loop-i : goal.invariant-loop-i

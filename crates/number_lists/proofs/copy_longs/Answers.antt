@@ -3,9 +3,7 @@ use lib.Seq.{length-take-le}
 use mathlib.Core.Path.{refl}
 use Prim.Native.Nat.{◌-◌}
 use native.Mathlib.Omega.{arith}
-use lib.ListN.{length}
-use borrow.Author.Rules.{rules}
-use Rattle.text.proofs.Writes.{Put, put_none, put_more, put_all}
+use Rattle.text.proofs.Writes.{put_more}
 use Rattle.number_lists.proofs.copy_longs.Goals as goal
 
 pub loop-i-preserved : goal.loop-i-preserved

@@ -1,11 +1,7 @@
 -- `number_lists::copy_longs` meets its contract: after each turn the first i numbers stand from the buffer's start on, and no other place has changed (`Put`).
-use lib.Seq.{length-take-le}
-use mathlib.Core.Path.{refl}
 use Prim.Native.Nat.{◌-◌}
-use native.Mathlib.Omega.{arith}
 use lib.ListN.{length}
-use borrow.Author.Rules.{rules}
-use Rattle.text.proofs.Writes.{Put, put_none, put_more, put_all}
+use Rattle.text.proofs.Writes.{Put}
 use Rattle.number_lists.proofs.copy_longs.Given as goal
 
 abbrev pub invariant-loop-i : goal.invariant-loop-i

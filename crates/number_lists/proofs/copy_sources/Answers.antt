@@ -5,10 +5,10 @@ use mathlib.Core.Path.{refl, ap}
 use Prim.Native.Nat.{◌-◌}
 use native.Mathlib.Omega.{arith}
 use lib.IntN.{pos}
-use lib.ListN.{length, set}
+use lib.ListN.{set}
 use mir.Facts.{to_z-of_z}
-use borrow.Author.Rules.{rules, sfits_of}
-use Rattle.text.proofs.Writes.{Put, put_none, put_more, put_all}
+use borrow.Author.Rules.{sfits_of}
+use Rattle.text.proofs.Writes.{put_more}
 use Rattle.number_lists.proofs.copy_sources.Goals as goal
 use mir.Syntax.{w64}
 

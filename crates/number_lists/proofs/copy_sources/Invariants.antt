@@ -1,14 +1,8 @@
 -- `number_lists::copy_sources` meets its contract: after each turn the first so many numbers stand from the buffer's start on, and no other place has changed (`Put`). A source is read as it
 -- stands (`to_z-of_z`).
-use lib.Seq.{length-take-le}
-use mathlib.Core.Path.{refl, ap}
 use Prim.Native.Nat.{◌-◌}
-use native.Mathlib.Omega.{arith}
-use lib.IntN.{pos}
-use lib.ListN.{length, set}
-use mir.Facts.{to_z-of_z}
-use borrow.Author.Rules.{rules, sfits_of}
-use Rattle.text.proofs.Writes.{Put, put_none, put_more, put_all}
+use lib.ListN.{length}
+use Rattle.text.proofs.Writes.{Put}
 use Rattle.number_lists.proofs.copy_sources.Given as goal
 
 abbrev pub invariant-loop-cell : goal.invariant-loop-cell

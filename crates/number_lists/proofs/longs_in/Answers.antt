@@ -1,12 +1,9 @@
 -- `number_lists::longs_in` meets its contract: the table is filled place by place (`Filled` of crate `grid`) with the numbers that stand in the file.
-use mathlib.Core.Path.{◌≡◌, ◌∙◌}
-use Prim.Native.Nat.{◌+◌, ◌-◌, ◌*◌, ◌≤◌}
+use mathlib.Core.Path.{◌∙◌}
+use Prim.Native.Nat.{◌+◌, ◌-◌, ◌*◌}
 use native.Mathlib.Omega.{arith}
-use borrow.Author.Rules.{rules}
-use lib.ListN.{length-drop}
-use Rattle.grid.proofs.Fill.{Filled, fill_none, fill_more}
-use Rattle.model.specs.Bytes.{long_at}
-use Rattle.words.proofs.Rest.{rest, long_from}
+use Rattle.grid.proofs.Fill.{fill_more}
+use Rattle.words.proofs.Rest.{long_from}
 use Rattle.number_lists.proofs.longs_in.Goals as goal
 
 pub loop-i-preserved : goal.loop-i-preserved

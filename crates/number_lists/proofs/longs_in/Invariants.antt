@@ -1,12 +1,7 @@
 -- `number_lists::longs_in` meets its contract: the table is filled place by place (`Filled` of crate `grid`) with the numbers that stand in the file.
-use mathlib.Core.Path.{◌≡◌, ◌∙◌}
 use Prim.Native.Nat.{◌+◌, ◌-◌, ◌*◌, ◌≤◌}
-use native.Mathlib.Omega.{arith}
-use borrow.Author.Rules.{rules}
-use lib.ListN.{length-drop}
-use Rattle.grid.proofs.Fill.{Filled, fill_none, fill_more}
+use Rattle.grid.proofs.Fill.{Filled}
 use Rattle.model.specs.Bytes.{long_at}
-use Rattle.words.proofs.Rest.{rest, long_from}
 use Rattle.number_lists.proofs.longs_in.Given as goal
 
 abbrev pub invariant-loop-i : goal.invariant-loop-i

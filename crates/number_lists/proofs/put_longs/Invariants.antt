@@ -1,13 +1,8 @@
 -- `number_lists::put_longs` meets its contract: after each turn the bytes of the first i numbers stand from `at` on (`Put`), four for each (`listed_front`).
-use lib.ListN.{take, length}
-use mathlib.Core.Path.{refl}
+use lib.ListN.{length}
 use Prim.Native.Nat.{◌-◌}
-use native.Mathlib.Omega.{arith}
-use borrow.Author.Rules.{rules}
-use Rattle.text.proofs.Writes.{Put, put_none, put_more, put_all}
-use Rattle.words.proofs.Stores.{listed_append, listed_front}
+use Rattle.text.proofs.Writes.{Put}
 use Rattle.model.specs.Bytes.{long, listed}
-use Rattle.model.proofs.Codes.{long_code}
 use Rattle.number_lists.proofs.put_longs.Given as goal
 
 abbrev pub invariant-loop-i : goal.invariant-loop-i

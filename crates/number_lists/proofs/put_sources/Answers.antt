@@ -1,12 +1,10 @@
 -- `number_lists::put_sources` meets its contract: after each turn the bytes of the first i numbers stand from `at` on (`Put`), eight for each (`listed_front`).
-use lib.ListN.{take, length}
-use mathlib.Core.Path.{refl}
+use lib.ListN.{take}
 use Prim.Native.Nat.{◌-◌}
 use native.Mathlib.Omega.{arith}
-use borrow.Author.Rules.{rules, sfits_of}
-use Rattle.text.proofs.Writes.{Put, put_none, put_more, put_all}
+use borrow.Author.Rules.{sfits_of}
+use Rattle.text.proofs.Writes.{put_more}
 use Rattle.words.proofs.Stores.{listed_append, listed_front}
-use Rattle.model.specs.Bytes.{listed}
 use Rattle.model.proofs.Codes.{signed_quad_code}
 use Rattle.model.specs.CoefficientFile.{source_bytes}
 use lib.IntN.{pos}

@@ -1,13 +1,12 @@
 -- `number_lists::sources_in` meets its contract: the table is filled place by place (`Filled` of crate `grid`) with the numbers that stand in the file.
-use mathlib.Core.Path.{◌≡◌, ap, ◌∙◌}
-use Prim.Native.Nat.{◌+◌, ◌-◌, ◌*◌, ◌≤◌}
+use mathlib.Core.Path.{ap, ◌∙◌}
+use Prim.Native.Nat.{◌+◌, ◌-◌, ◌*◌}
 use native.Mathlib.Omega.{arith}
-use borrow.Author.Rules.{rules, sfits_of}
+use borrow.Author.Rules.{sfits_of}
 use mir.Facts.{to_z-of_z}
-use lib.ListN.{length-drop}
-use Rattle.grid.proofs.Fill.{Filled, fill_none, fill_more}
-use Rattle.model.specs.Bytes.{quad_at, signed_quad}
-use Rattle.words.proofs.Rest.{rest, quad_from}
+use Rattle.grid.proofs.Fill.{fill_more}
+use Rattle.model.specs.Bytes.{signed_quad}
+use Rattle.words.proofs.Rest.{quad_from}
 use Rattle.number_lists.proofs.sources_in.Goals as goal
 use mir.Syntax.{w64}
 

@@ -1,13 +1,7 @@
 -- `number_lists::sources_in` meets its contract: the table is filled place by place (`Filled` of crate `grid`) with the numbers that stand in the file.
-use mathlib.Core.Path.{◌≡◌, ap, ◌∙◌}
 use Prim.Native.Nat.{◌+◌, ◌-◌, ◌*◌, ◌≤◌}
-use native.Mathlib.Omega.{arith}
-use borrow.Author.Rules.{rules, sfits_of}
-use mir.Facts.{to_z-of_z}
-use lib.ListN.{length-drop}
-use Rattle.grid.proofs.Fill.{Filled, fill_none, fill_more}
+use Rattle.grid.proofs.Fill.{Filled}
 use Rattle.model.specs.Bytes.{quad_at, signed_quad}
-use Rattle.words.proofs.Rest.{rest, quad_from}
 use Rattle.number_lists.proofs.sources_in.Given as goal
 
 abbrev pub invariant-loop-i : goal.invariant-loop-i

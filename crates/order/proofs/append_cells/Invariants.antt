@@ -1,13 +1,7 @@
 -- `order::append_cells` meets its contract: after each turn the cells of the parity so far stand from `start` on, and any more have room.
-use mathlib.Core.Path.{◌≡◌, sym, ◌∙◌}
-use mathlib.Core.Logic.{⊎_elim}
-use Prim.Native.Nat.{◌-◌, ◌≤◌, ◌<◌}
-use native.Mathlib.Omega.{arith}
-use borrow.Author.Rules.{rules}
-use lib.ListN.{length}
+use Prim.Native.Nat.{◌-◌, ◌≤◌}
 use Rattle.monotone.specs.Ordering.{picks}
 use Rattle.order.specs.Order.{has_parity, Appended}
-use Rattle.order.proofs.Append.{append_none, append_yes, append_no, append_room, append_len}
 use Rattle.order.proofs.append_cells.Given as goal
 
 abbrev pub invariant-loop-cell : goal.invariant-loop-cell

@@ -1,7 +1,6 @@
 -- `order::fill_order` meets its contract: orders 0 and 1 go by index, and in order 2 the odd cells follow the even ones, which together are all.
 use mathlib.Core.Path.{◌∙◌}
 use native.Mathlib.Omega.{arith}
-use borrow.Author.Rules.{rules}
 use Rattle.monotone.proofs.Ordering.{picks_length}
 use Rattle.model.specs.Run.{even_cell}
 use Rattle.order.proofs.Append.{append_len, append_all, order_low, order_high}

@@ -1,11 +1,6 @@
 -- `proposal::propose` meets its contract: the buffer has room for every cell, and the decision on the new field is the one on the proposal (`propose_by`).
-use mathlib.Core.Path.{sym, ◌∙◌}
 use mathlib.Core.List.{[]}
-use native.Mathlib.Omega.{arith}
-use borrow.Author.Rules.{rules}
-use lib.Seq.{length-take-le}
 use Rattle.model.specs.Film.{film_of}
-use Rattle.grid.proofs.Limited.{size_low}
 use Rattle.proposal.proofs.Proposal.{propose_by}
 use Rattle.proposal.proofs.propose.Goals as goal
 

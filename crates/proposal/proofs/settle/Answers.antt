@@ -1,6 +1,5 @@
 -- `proposal::settle` meets its contract: its three tests together are `accepts` (`all_hold`, `one_fails`), and the field is written only where all hold.
 use mathlib.Core.List.{[]}
-use borrow.Author.Rules.{rules}
 use Rattle.model.specs.Film.{film_of}
 use Rattle.model.specs.Proposal.{rise_count, within_ceiling}
 use Rattle.proposal.proofs.Proposal.{all_hold, one_fails}

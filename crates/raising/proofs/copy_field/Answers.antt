@@ -1,11 +1,10 @@
 -- `raising::copy_field` meets its contract: the places are filled in turn (`Filled`), and the two fields have one length, so that nothing old is left.
 use mathlib.Core.Path.{◌≡◌, refl, sym, ◌∙◌}
-use Prim.Native.Nat.{◌-◌, ◌≤◌}
+use Prim.Native.Nat.{◌-◌}
 use native.Mathlib.Omega.{arith}
-use borrow.Author.Rules.{rules}
-use lib.ListN.{length, get_or}
+use lib.ListN.{length}
 use lib.Seq.{take_all}
-use Rattle.grid.proofs.Fill.{Filled, fill_none, fill_more, fill_copy}
+use Rattle.grid.proofs.Fill.{fill_more, fill_copy}
 use Rattle.raising.proofs.copy_field.Goals as goal
 
 pub loop-at-preserved : goal.loop-at-preserved

@@ -1,11 +1,7 @@
 -- `raising::copy_field` meets its contract: the places are filled in turn (`Filled`), and the two fields have one length, so that nothing old is left.
-use mathlib.Core.Path.{◌≡◌, refl, sym, ◌∙◌}
 use Prim.Native.Nat.{◌-◌, ◌≤◌}
-use native.Mathlib.Omega.{arith}
-use borrow.Author.Rules.{rules}
 use lib.ListN.{length, get_or}
-use lib.Seq.{take_all}
-use Rattle.grid.proofs.Fill.{Filled, fill_none, fill_more, fill_copy}
+use Rattle.grid.proofs.Fill.{Filled}
 use Rattle.raising.proofs.copy_field.Given as goal
 
 abbrev pub invariant-loop-at : goal.invariant-loop-at

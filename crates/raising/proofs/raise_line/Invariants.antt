@@ -1,11 +1,8 @@
 -- `raising::raise_line` meets its contract: each place is filled in turn (`Filled`) with the larger of pressure and proposal, which is `raised_at`.
-use mathlib.Core.Path.{◌≡◌}
 use Prim.Native.Nat.{◌-◌, ◌≤◌}
-use native.Mathlib.Omega.{arith}
-use borrow.Author.Rules.{rules}
 use lib.ListN.{length}
 use Rattle.model.specs.Proposal.{raised_at}
-use Rattle.grid.proofs.Fill.{Filled, fill_none, fill_more}
+use Rattle.grid.proofs.Fill.{Filled}
 use Rattle.raising.proofs.raise_line.Given as goal
 
 abbrev pub invariant-loop-at : goal.invariant-loop-at

@@ -1,9 +1,7 @@
 -- `raising::rise_count` meets its contract: the loop has counted the rises before the column (`Counted`), at most one for each, so the sum fits.
-use Prim.Native.Nat.{◌+◌, ◌-◌}
+use Prim.Native.Nat.{◌-◌}
 use native.Mathlib.Omega.{arith}
-use borrow.Author.Rules.{rules}
-use Rattle.model.specs.Proposal.{rises}
-use Rattle.raising.proofs.Columns.{Counted, counted_none, counted_more, counted_low, counted_all}
+use Rattle.raising.proofs.Columns.{counted_more, counted_low}
 use Rattle.raising.proofs.rise_count.Goals as goal
 
 pub overflow_add-cells : goal.overflow_add-cells

@@ -1,10 +1,7 @@
 -- `raising::within_ceiling` meets its contract: all cells before the column have passed (`Passed`), and one above the ceiling decides the row.
-use Prim.Native.Nat.{◌+◌, ◌-◌}
-use borrow.Author.Rules.{rules}
-use borrow.Author.Tests.{le-leb, lt-leb}
-use lib.Dec.{leb}
-use lib.ListN.{get_or}
-use Rattle.raising.proofs.Columns.{Passed, passed_none, passed_more, passed_fails, passed_all}
+use Prim.Native.Nat.{◌-◌}
+use borrow.Author.Tests.{lt-leb}
+use Rattle.raising.proofs.Columns.{passed_fails}
 use Rattle.raising.proofs.within_ceiling.Goals as goal
 
 pub returns-then-ceiling-raised : goal.returns-then-ceiling-raised

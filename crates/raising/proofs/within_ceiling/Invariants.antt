@@ -1,10 +1,8 @@
 -- `raising::within_ceiling` meets its contract: all cells before the column have passed (`Passed`), and one above the ceiling decides the row.
 use Prim.Native.Nat.{◌+◌, ◌-◌}
-use borrow.Author.Rules.{rules}
-use borrow.Author.Tests.{le-leb, lt-leb}
 use lib.Dec.{leb}
 use lib.ListN.{get_or}
-use Rattle.raising.proofs.Columns.{Passed, passed_none, passed_more, passed_fails, passed_all}
+use Rattle.raising.proofs.Columns.{Passed}
 use Rattle.raising.proofs.within_ceiling.Given as goal
 
 abbrev pub invariant-loop-column : goal.invariant-loop-column

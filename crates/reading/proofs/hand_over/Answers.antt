@@ -2,11 +2,10 @@
 use mathlib.Core.Path.{ap}
 use Prim.Native.Nat.{◌≤◌}
 use native.Mathlib.Omega.{arith}
-use borrow.Author.Rules.{rules}
 use lib.ListN.{length}
 use mir.Facts.{to_z-of_z}
 use Rattle.model.specs.Refusals.{check_of}
-use Rattle.reading.proofs.Numbers.{few_cells, few_thicknesses, film_loaded, film_refused}
+use Rattle.reading.proofs.Numbers.{few_cells, few_thicknesses, film_loaded}
 use Rattle.reading.proofs.hand_over.Goals as goal
 
 pub put_bytes-requires : goal.put_bytes-requires

@@ -3,7 +3,7 @@
 use mathlib.Core.Path.{◌≡◌, sym, ap, ◌∙◌}
 use Prim.Native.Nat.{◌+◌, ◌-◌, ◌*◌, ◌≤◌}
 use native.Mathlib.Omega.{arith}
-use borrow.Author.Rules.{rules, sfits_of}
+use borrow.Author.Rules.{sfits_of}
 use lib.ListN.{length, take, drop}
 use lib.Seq.{length-take-le}
 use mir.Facts.{to_z-of_z}
@@ -13,13 +13,11 @@ use Rattle.model.specs.Bytes.{byte_at, long_at, signed_of}
 use Rattle.model.specs.Fields.{part_at}
 use Rattle.model.specs.File.{steps_field, thicknesses_offset, wedge_offset, end_offset, ring_in, carried, carried_in, steps_of, numbers_in}
 use Rattle.model.proofs.Sides.{cells_low}
-use Rattle.model.proofs.Opening.{carried_low}
-use Rattle.forming.proofs.Cell.{ring_low}
 use Rattle.values.proofs.Parts.{part_is}
 use Rattle.reading.specs.Reading.{Decoded}
 use Rattle.reading.proofs.Numbers.{Whole, fields_whole}
 use Rattle.reading.proofs.read_fields.Goals as goal
-use mir.Syntax.{w32, w64}
+use mir.Syntax.{w32}
 
 pub slice_bounds-hand_over-end : goal.slice_bounds-hand_over-end
 slice_bounds-hand_over-end c =
@@ -52,12 +50,12 @@ hand_over-requires-clause-decoded c =
     let carried_is : c.carried.result ≡ carried_in c.args.file.now = c.carried.ensures ∙ ap (carried c.args.file.now) (c.area-n.ensures ∙ ap (λ h. h.rows * h.columns) c.head_in-head.ensures) in
     let within : 15 + 2 * c.carried.result + 3 + c.ring-t.result ≤ length c.args.file.now = omega (arith, whole.long, carried_is, ring_is) in
     let decoded : let l = c.args.file.now in let from = 15 + 2 * c.carried.result + 3 in Decoded l c.head_in-head.result (take (from + c.ring-t.result - from) (drop from l)) c.steps_in-steps.result =
-            let l = c.args.file.now in
-        record {
-          fields = c.requires.file_value;
-          head_is = c.head_in-head.ensures;
-          thicknesses_are = part_is l (15 + 2 * c.carried.result + 3) c.ring-t.result within ∙ (λ i. tabulate (ring_is i) (λ j. byte_at l (thicknesses_offset (carried_is i) + j)));
-          steps_are = c.steps_in-steps.ensures ∙ (λ i. steps_of (part_at steps_field l (end_offset (carried_is i) (ring_is i))));
-        } in
+    let l = c.args.file.now in
+    record {
+      fields = c.requires.file_value;
+      head_is = c.head_in-head.ensures;
+      thicknesses_are = part_is l (15 + 2 * c.carried.result + 3) c.ring-t.result within ∙ (λ i. tabulate (ring_is i) (λ j. byte_at l (thicknesses_offset (carried_is i) + j)));
+      steps_are = c.steps_in-steps.ensures ∙ (λ i. steps_of (part_at steps_field l (end_offset (carried_is i) (ring_is i))));
+    } in
     let wedge_is : c.signed-wedge.result ≡ (numbers_in c.args.file.now).wedge = c.signed-wedge.ensures ∙ ap signed_of c.long_at.ensures ∙ (λ i. signed_of (long_at c.args.file.now (wedge_offset (carried_is i) (ring_is i)))) in
     (decoded, to_z-of_z {w = w32} (sfits_of c.signed-wedge.type_inv) ∙ wedge_is, length-take-le _ _ few ∙ c.area-n.ensures)

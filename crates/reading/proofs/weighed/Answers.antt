@@ -1,25 +1,15 @@
 -- `reading::weighed` meets its contract: weights that are found are the model's (`weighs_found`), and so are those that stand in the file (`weighs_standing`).
--- whether the file has its weights, from where each arm begins
 use mathlib.Core.Path.{◌≡◌, sym, ap, subst, ◌∙◌}
 use mathlib.Core.Bool.{true, false}
-use mathlib.Core.List.{List}
 use Prim.Native.Nat.{ℕ, ◌+◌, ◌*◌}
 use native.Mathlib.Nat.{le_refl}
 use native.Mathlib.Omega.{arith}
-use borrow.Author.Rules.{rules}
-use lib.IntN.{pos}
 use lib.ListN.{length}
 use lib.Seq.{take_all}
 use Rattle.model.specs.Lists.{tabulate}
 use Rattle.model.specs.Gauge.{factors_of, Stepped}
-use Rattle.model.specs.Coefficients.{formed}
-use Rattle.model.specs.Accepted.{Limited}
 use Rattle.model.specs.Bytes.{word_at}
 use Rattle.model.specs.File.{weights_offset, weightless}
-use Rattle.model.specs.FileCalls.{gauge_of}
-use Rattle.model.specs.declared.Factors.{Factors}
-use Rattle.model.specs.declared.Steps.TheVariants.{Given}
-use Rattle.forming.specs.Cell.{Ringed}
 use Rattle.reading.proofs.Numbers.{ringed, stepped, few_cells, cells_are, weights_long, limited, weighs_found, weighs_standing}
 use Rattle.reading.proofs.weighed.Goals as goal
 

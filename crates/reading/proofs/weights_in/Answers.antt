@@ -1,13 +1,10 @@
 -- `reading::weights_in` meets its contract: the table is filled place by place (`Filled` of crate `grid`) with the words that stand in the file.
-use mathlib.Core.Path.{◌≡◌, ◌∙◌}
-use Prim.Native.Nat.{◌+◌, ◌-◌, ◌*◌, ◌≤◌}
+use mathlib.Core.Path.{◌∙◌}
+use Prim.Native.Nat.{◌+◌, ◌-◌, ◌*◌}
 use native.Mathlib.Omega.{arith}
-use borrow.Author.Rules.{rules}
-use lib.ListN.{length-drop}
-use Rattle.grid.proofs.Fill.{Filled, fill_none, fill_more}
-use Rattle.model.specs.Bytes.{word_at}
+use Rattle.grid.proofs.Fill.{fill_more}
 use Rattle.model.specs.File.{weights_offset}
-use Rattle.words.proofs.Rest.{rest, word_from}
+use Rattle.words.proofs.Rest.{word_from}
 use Rattle.reading.proofs.weights_in.Goals as goal
 
 pub loop-i-preserved : goal.loop-i-preserved

@@ -1,13 +1,8 @@
 -- `reading::weights_in` meets its contract: the table is filled place by place (`Filled` of crate `grid`) with the words that stand in the file.
-use mathlib.Core.Path.{◌≡◌, ◌∙◌}
 use Prim.Native.Nat.{◌+◌, ◌-◌, ◌*◌, ◌≤◌}
-use native.Mathlib.Omega.{arith}
-use borrow.Author.Rules.{rules}
-use lib.ListN.{length-drop}
-use Rattle.grid.proofs.Fill.{Filled, fill_none, fill_more}
+use Rattle.grid.proofs.Fill.{Filled}
 use Rattle.model.specs.Bytes.{word_at}
 use Rattle.model.specs.File.{weights_offset}
-use Rattle.words.proofs.Rest.{rest, word_from}
 use Rattle.reading.proofs.weights_in.Given as goal
 
 abbrev pub invariant-loop-i : goal.invariant-loop-i

@@ -1,6 +1,4 @@
 -- `relaxation::relaxed` meets its contract: a step to where the loaded cell is raised to is its relaxation (`loaded_serves`).
--- the start, from where the cell is loaded
-use borrow.Author.Rules.{rules}
 use Rattle.relaxation.proofs.Target.{loaded_serves}
 use Rattle.relaxation.proofs.relaxed.Goals as goal
 

@@ -1,14 +1,8 @@
 -- `render::put_cells` meets its contract: after each turn the first i lines are written, and where all lines have room the next one has (`line_fits`).
-use mathlib.Core.Path.{◌≡◌, subst}
 use mathlib.Core.List.{[]}
-use Prim.Native.Nat.{ℕ, ◌*◌, ◌-◌, ◌<◌, ◌≤◌}
+use Prim.Native.Nat.{◌*◌, ◌-◌, ◌<◌}
 use native.Mathlib.Omega.{arith}
-use lib.ListN.{length}
-use borrow.Author.Rules.{rules}
 use Rattle.model.specs.Film.{Film, film_of}
-use Rattle.model.specs.Report.{cell_lines}
-use Rattle.text.specs.Writes.{Writes}
-use Rattle.text.proofs.Writes.{writes_length}
 use Rattle.render.proofs.Cells.{lines_none, lines_next, line_fits}
 use Rattle.render.proofs.put_cells.Goals as goal
 

@@ -1,6 +1,5 @@
 -- `render::put_ended` meets its contract: the answer's line and then the field's text are the whole (`writes_then`), and the second has room behind the first.
-use Rattle.text.proofs.Writes.{fits_first, fits_rest, writes_then}
-use borrow.Author.Rules.{rules}
+use Rattle.text.proofs.Writes.{writes_then}
 use Rattle.render.proofs.put_ended.Goals as goal
 
 pub returns : goal.returns

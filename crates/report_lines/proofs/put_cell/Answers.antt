@@ -1,13 +1,9 @@
 -- `report_lines::put_cell` meets its contract: the pair, a space and the values, one after another, are the cell's line.
--- the whole line has room at the start, part after part
 use mir.Facts.{to_z-of_z}
-use mathlib.Core.List.{◌++◌}
-use Rattle.model.specs.Report.{◌␣◌, line, decimal, signed}
-use Rattle.text.specs.Writes.{Fits}
+use Rattle.model.specs.Report.{◌␣◌, decimal, signed}
 use Rattle.report_lines.specs.Lines.{pair}
-use Rattle.text.proofs.Writes.{fits_first, fits_rest, writes_then}
-use Rattle.report_lines.proofs.Parts.{space, line_parts}
-use borrow.Author.Rules.{rules}
+use Rattle.text.proofs.Writes.{writes_then}
+use Rattle.report_lines.proofs.Parts.{line_parts}
 use Rattle.report_lines.proofs.put_cell.Goals as goal
 
 pub returns : goal.returns

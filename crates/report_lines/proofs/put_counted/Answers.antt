@@ -1,12 +1,7 @@
 -- `report_lines::put_counted` meets its contract: the word, a space and the two numbers with their line's end, one after another, are the line.
--- the whole line has room at the start, part after part
-use mathlib.Core.List.{◌++◌}
-use Rattle.model.specs.Report.{line}
-use Rattle.text.specs.Writes.{Fits}
 use Rattle.report_lines.specs.Lines.{pair}
-use Rattle.text.proofs.Writes.{fits_first, fits_rest, writes_then}
-use Rattle.report_lines.proofs.Parts.{space, line_parts}
-use borrow.Author.Rules.{rules}
+use Rattle.text.proofs.Writes.{writes_then}
+use Rattle.report_lines.proofs.Parts.{line_parts}
 use Rattle.report_lines.proofs.put_counted.Goals as goal
 
 pub returns : goal.returns

@@ -1,11 +1,6 @@
 -- `report_lines::put_peak` meets its contract: the word, the place, a space and the pressure, one after another, are the peak's line.
-use mathlib.Core.List.{◌++◌}
-use Rattle.model.specs.Report.{decimal, peak_word}
-use Rattle.text.specs.Writes.{Fits}
-use Rattle.report_lines.specs.Lines.{pair}
-use Rattle.text.proofs.Writes.{fits_first, fits_rest, writes_then}
-use Rattle.report_lines.proofs.Parts.{space, end, peak_parts}
-use borrow.Author.Rules.{rules}
+use Rattle.text.proofs.Writes.{writes_then}
+use Rattle.report_lines.proofs.Parts.{peak_parts}
 use Rattle.report_lines.proofs.put_peak.Goals as goal
 
 pub returns : goal.returns

@@ -1,12 +1,8 @@
 -- `report_lines::put_values` meets its contract: pressure, a space, slack and the line feed, one after another, end the cell's line.
--- the whole line has room at the start, part after part
 use mir.Facts.{to_z-of_z}
-use mathlib.Core.List.{◌++◌}
 use Rattle.model.specs.Report.{decimal, signed}
-use Rattle.text.specs.Writes.{Fits}
-use Rattle.text.proofs.Writes.{fits_first, fits_rest, writes_then}
-use Rattle.report_lines.proofs.Parts.{space, end, line_parts}
-use borrow.Author.Rules.{rules}
+use Rattle.text.proofs.Writes.{writes_then}
+use Rattle.report_lines.proofs.Parts.{line_parts}
 use Rattle.report_lines.proofs.put_values.Goals as goal
 
 pub returns : goal.returns

@@ -1,8 +1,6 @@
 -- `row_sums::not_dominant` meets its contract: inside the grid its links are the formed film's, all four add up to its diagonal, and the comparison is `row_sum`.
--- the factors, and that they are within their limits
 use Prim.Native.Nat.{◌≤◌, ◌^◌}
 use native.Mathlib.Omega.{arith}
-use borrow.Author.Rules.{rules}
 use lib.IntN.{pos}
 use Rattle.model.specs.Gauge.{Gauge, by_factors, Stepped}
 use Rattle.model.specs.declared.Factors.{Factors}
@@ -18,13 +16,13 @@ pull-pull-requires-clause-left_bound c =
     let f : Factors = c.args.factors in
     let steps : Stepped f = c.requires.ringed.2 in
     let links_low : let k = c.links_of-links.result in (k.left ≤ 2 ^ 29) × (k.right ≤ 2 ^ 29) × (k.down ≤ 2 ^ 29) × (k.up ≤ 2 ^ 29) =
-            let a = c.around_at.result in
-        rw c.links_of-links.ensures (
-          omega (arith, link_low a.own a.left (omega arith) (omega arith) f.along steps.along_low),
-          omega (arith, link_low a.own a.right (omega arith) (omega arith) f.along steps.along_low),
-          omega (arith, link_low a.own a.down (omega arith) (omega arith) f.across steps.across_low),
-          omega (arith, link_low a.own a.up (omega arith) (omega arith) f.across steps.across_low),
-        ) in
+    let a = c.around_at.result in
+    rw c.links_of-links.ensures (
+      omega (arith, link_low a.own a.left (omega arith) (omega arith) f.along steps.along_low),
+      omega (arith, link_low a.own a.right (omega arith) (omega arith) f.along steps.along_low),
+      omega (arith, link_low a.own a.down (omega arith) (omega arith) f.across steps.across_low),
+      omega (arith, link_low a.own a.up (omega arith) (omega arith) f.across steps.across_low),
+    ) in
     links_low
 
 pub returns : goal.returns

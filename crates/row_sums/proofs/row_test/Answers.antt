@@ -1,14 +1,7 @@
 -- `row_sums::row_test` meets its contract: a search (`Searched`) by `not_dominant` from the row's first cell on, the rows before having passed.
-use Prim.Native.Nat.{◌+◌, ◌-◌, ◌*◌}
-use native.Mathlib.Omega.{arith}
-use borrow.Author.Rules.{rules}
-use lib.IntN.{pos}
-use Rattle.model.specs.Gauge.{by_factors}
-use Rattle.model.specs.Coefficients.{formed}
+use Prim.Native.Nat.{◌-◌}
 use Rattle.model.specs.Checks.{not_dominant}
-use Rattle.model.specs.FileCalls.{gauge_of}
-use Rattle.refusals.proofs.Search.{Searched}
-use Rattle.refusals.proofs.Rows.{row_begins, row_next, row_fails, row_passes}
+use Rattle.refusals.proofs.Rows.{row_begins, row_next, row_fails}
 use Rattle.row_sums.proofs.row_test.Goals as goal
 
 pub loop-i-init : goal.loop-i-init

@@ -1,14 +1,11 @@
 -- `row_sums::row_test` meets its contract: a search (`Searched`) by `not_dominant` from the row's first cell on, the rows before having passed.
 use Prim.Native.Nat.{◌+◌, ◌-◌, ◌*◌}
-use native.Mathlib.Omega.{arith}
-use borrow.Author.Rules.{rules}
 use lib.IntN.{pos}
 use Rattle.model.specs.Gauge.{by_factors}
 use Rattle.model.specs.Coefficients.{formed}
 use Rattle.model.specs.Checks.{not_dominant}
 use Rattle.model.specs.FileCalls.{gauge_of}
 use Rattle.refusals.proofs.Search.{Searched}
-use Rattle.refusals.proofs.Rows.{row_begins, row_next, row_fails, row_passes}
 use Rattle.row_sums.proofs.row_test.Given as goal
 
 abbrev pub invariant-loop-i : goal.invariant-loop-i

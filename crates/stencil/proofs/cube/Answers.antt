@@ -3,7 +3,6 @@ use mathlib.Core.Path.{refl}
 use mathlib.Core.List.{[]}
 use Rattle.stencil.proofs.Widths.{Narrow}
 use Rattle.stencil.proofs.cube.Code.{code}
-use Rattle.stencil.proofs.cube.Goals as goal
 
 -- W4: a thickness and its cube
 pub cube_narrow : Narrow code []

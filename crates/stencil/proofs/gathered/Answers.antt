@@ -3,7 +3,6 @@ use mathlib.Core.Path.{refl}
 use mathlib.Core.List.{[]}
 use Rattle.stencil.proofs.Widths.{Narrow}
 use Rattle.stencil.proofs.gathered.Code.{code}
-use Rattle.stencil.proofs.gathered.Goals as goal
 
 -- W4: the links and the diagonal
 pub gathered_narrow : Narrow code []

@@ -6,18 +6,12 @@ use Rattle.stencil.proofs.scaled.Symbol.{code as #scaled}
 use Rattle.stencil.proofs.gathered.Symbol.{code as #gathered}
 use Rattle.stencil.proofs.Widths.{Narrow}
 use Rattle.stencil.proofs.links_of.Code.{code}
-use mathlib.Core.Path.{◌∙◌, refl}
-use Prim.Native.Nat.{◌*◌, ◌≤◌}
+use mathlib.Core.Path.{refl}
+use Prim.Native.Nat.{◌≤◌}
 use native.Mathlib.Omega.{arith}
-use borrow.Author.Rules.{rules}
-use borrow.Author.Tests.{eqb-true}
-use lib.Dec.{eqb}
 use Rattle.model.specs.Gauge.{Stepped}
 use Rattle.model.specs.declared.Factors.{Factors}
-use Rattle.model.proofs.Checks.{and_parts}
-use Rattle.stencil.specs.Cell.{links_by}
-use Rattle.stencil.specs.declared.Around.{Around}
-use Rattle.stencil.proofs.Fits.{cube_low, plain_links}
+use Rattle.stencil.proofs.Fits.{cube_low}
 use Rattle.stencil.proofs.links_of.Goals as goal
 
 -- W4: thicknesses, factors, cubes, links and diagonal

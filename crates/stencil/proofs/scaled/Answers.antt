@@ -3,7 +3,6 @@ use mathlib.Core.Path.{refl}
 use mathlib.Core.List.{[]}
 use Rattle.stencil.proofs.Widths.{Narrow}
 use Rattle.stencil.proofs.scaled.Code.{code}
-use Rattle.stencil.proofs.scaled.Goals as goal
 
 -- W4: a cube and a factor
 pub scaled_narrow : Narrow code []

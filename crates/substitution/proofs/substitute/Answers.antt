@@ -1,6 +1,5 @@
 -- `substitution::substitute` meets its contract: each arm of the two matches is a case of the model's, with the same float operations in the same order.
 use Rattle.model.specs.Estimate.{substitute}
-use borrow.Author.Rules.{rules}
 use Rattle.substitution.proofs.substitute.Goals as goal
 
 pub returns-in-Idle : goal.returns-in-Idle

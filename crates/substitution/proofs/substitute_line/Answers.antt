@@ -1,10 +1,8 @@
 -- `substitution::substitute_line` meets its contract: after each turn the columns from j on hold the model's proposals, whatever film the line is of (`Substituting`).
 use mathlib.Core.Path.{◌≡◌}
-use Prim.Native.Nat.{ℕ, ◌+◌, ◌-◌, ◌<◌}
+use Prim.Native.Nat.{◌-◌}
 use native.Mathlib.Omega.{arith}
-use borrow.Author.Rules.{rules}
-use lib.ListN.{length}
-use Rattle.substitution.proofs.Backward.{Substituting, substituting_begin, substituting_next, substituting_done}
+use Rattle.substitution.proofs.Backward.{substituting_begin, substituting_next, substituting_done}
 use Rattle.substitution.proofs.substitute_line.Goals as goal
 
 pub loop-j-init : goal.loop-j-init

@@ -1,10 +1,7 @@
 -- `substitution::substitute_line` meets its contract: after each turn the columns from j on hold the model's proposals, whatever film the line is of (`Substituting`).
-use mathlib.Core.Path.{◌≡◌}
-use Prim.Native.Nat.{ℕ, ◌+◌, ◌-◌, ◌<◌}
-use native.Mathlib.Omega.{arith}
-use borrow.Author.Rules.{rules}
+use Prim.Native.Nat.{◌-◌}
 use lib.ListN.{length}
-use Rattle.substitution.proofs.Backward.{Substituting, substituting_begin, substituting_next, substituting_done}
+use Rattle.substitution.proofs.Backward.{Substituting}
 use Rattle.substitution.proofs.substitute_line.Given as goal
 
 abbrev pub invariant-loop-j : goal.invariant-loop-j

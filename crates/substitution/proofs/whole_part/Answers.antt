@@ -1,6 +1,5 @@
 -- `substitution::whole_part` meets its contract: by cases, each of which the match tells; the whole part of a value is what `float::whole_part` promises.
 use Rattle.model.specs.Estimate.{whole_part}
-use borrow.Author.Rules.{rules}
 use Rattle.substitution.proofs.whole_part.Goals as goal
 
 pub returns-in-Inactive : goal.returns-in-Inactive

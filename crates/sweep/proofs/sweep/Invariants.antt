@@ -1,9 +1,7 @@
 -- `sweep::sweep` meets its contract: after each turn the rest of the budget leads to the end of the theory's sweep (`Running`), and each answer names that end.
 use Prim.Native.Nat.{◌-◌}
-use native.Mathlib.Omega.{arith}
-use borrow.Author.Rules.{rules}
 use Rattle.relaxation.specs.Rule.{required_by}
-use Rattle.sweep.proofs.Turn.{loaded_long, Running, running_begin, running_place, running_room, running_listed, running_stopped, running_next, running_done, running_over, running_less, advanced_long}
+use Rattle.sweep.proofs.Turn.{Running}
 use Rattle.sweep.proofs.sweep.Given as goal
 
 abbrev pub invariant-loop-counter : goal.invariant-loop-counter

@@ -1,5 +1,5 @@
 -- `text::put_decimal` meets its contract: one digit stands alone, and more are the digits before the last and the last.
-use Prim.Native.Nat.{ℕ, ◌+◌, ◌/◌, ◌<◌, ◌≤◌}
+use Prim.Native.Nat.{ℕ, ◌/◌, ◌<◌, ◌≤◌}
 use native.Mathlib.Omega.{arith}
 use borrow.Author.Rules.{rules}
 use Rattle.model.proofs.Digits.{decimal_one, decimal_more}

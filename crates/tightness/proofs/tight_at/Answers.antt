@@ -1,9 +1,7 @@
 -- `tightness::tight_at` meets its contract: a cell that does not rise passes (`keeps`), and for one that rises a slack below 1 is one of at most 0 (`rises_by`).
-use native.Mathlib.Omega.{arith}
 use mir.Facts.{to_z-of_z}
-use borrow.Author.Rules.{rules, sfits_of}
-use Rattle.grid.proofs.Limited.{limited_loaded}
-use Rattle.tightness.proofs.Tight.{keeps, rises_by}
+use borrow.Author.Rules.{sfits_of}
+use Rattle.tightness.proofs.Tight.{rises_by}
 use Rattle.tightness.proofs.tight_at.Goals as goal
 
 pub returns : goal.returns

@@ -1,14 +1,7 @@
 -- `tightness::tight_row` meets its contract: a loop that looks for a column that fails (`Passed` of crate `raising`), whose test is `tight_at` of that cell.
-use mathlib.Core.Bool.{not, ◌||◌}
-use mathlib.Core.List.{[]}
-use Prim.Native.Nat.{◌+◌, ◌-◌}
-use native.Mathlib.Omega.{arith}
-use borrow.Author.Rules.{rules}
-use borrow.Author.Tests.{not-true, not-false}
-use Rattle.model.specs.Integers.{at_most_zero}
-use Rattle.model.specs.Film.{film_of, slack}
-use Rattle.model.specs.Proposal.{rises, tight}
-use Rattle.raising.proofs.Columns.{Passed, passed_none, passed_more, passed_fails, passed_all}
+use Prim.Native.Nat.{◌-◌}
+use Rattle.model.specs.Proposal.{tight}
+use Rattle.raising.proofs.Columns.{passed_fails, passed_all}
 use Rattle.tightness.proofs.tight_row.Goals as goal
 
 pub returns-then-not-tight_at : goal.returns-then-not-tight_at

@@ -2,13 +2,10 @@
 use mathlib.Core.Bool.{not, ◌||◌}
 use mathlib.Core.List.{[]}
 use Prim.Native.Nat.{◌+◌, ◌-◌}
-use native.Mathlib.Omega.{arith}
-use borrow.Author.Rules.{rules}
-use borrow.Author.Tests.{not-true, not-false}
 use Rattle.model.specs.Integers.{at_most_zero}
 use Rattle.model.specs.Film.{film_of, slack}
-use Rattle.model.specs.Proposal.{rises, tight}
-use Rattle.raising.proofs.Columns.{Passed, passed_none, passed_more, passed_fails, passed_all}
+use Rattle.model.specs.Proposal.{rises}
+use Rattle.raising.proofs.Columns.{Passed}
 use Rattle.tightness.proofs.tight_row.Given as goal
 
 abbrev pub invariant-loop-column : goal.invariant-loop-column

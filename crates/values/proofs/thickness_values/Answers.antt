@@ -1,7 +1,6 @@
 -- `values::thickness_values` meets its contract: the part of the file that is tested has the bytes that stand there (`part_tested`).
 use mathlib.Core.Path.{◌∙◌}
 use Rattle.values.proofs.Parts.{part_tested}
-use borrow.Author.Rules.{rules}
 use Rattle.values.proofs.thickness_values.Goals as goal
 
 pub returns : goal.returns

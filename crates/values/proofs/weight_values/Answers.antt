@@ -1,14 +1,10 @@
 -- `values::weight_values` meets its contract: a search (`Search` of crate `refusals`) whose test reads the two bytes of a weight where they stand.
 use mathlib.Core.Path.{ap, ◌∙◌}
 use Prim.Native.Nat.{◌+◌, ◌-◌, ◌*◌}
-use native.Mathlib.Omega.{arith}
-use borrow.Author.Rules.{rules}
 use borrow.Author.Tests.{eq-eqb, ne_eqb}
 use lib.Dec.{eqb}
-use lib.ListN.{length-drop}
-use Rattle.model.specs.Bytes.{word_at}
-use Rattle.refusals.proofs.Search.{Searched, search_begins, search_next, search_fails, search_passes}
-use Rattle.words.proofs.Rest.{rest, word_from}
+use Rattle.refusals.proofs.Search.{search_begins, search_next, search_fails}
+use Rattle.words.proofs.Rest.{word_from}
 use Rattle.values.proofs.weight_values.Goals as goal
 
 pub loop-i-init : goal.loop-i-init

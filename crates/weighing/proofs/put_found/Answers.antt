@@ -1,11 +1,10 @@
 -- `weighing::put_found` meets its contract: places filled one by one (`Filled`) hold the field's numbers in the end (`fill_copy`), and there are no others.
 use mathlib.Core.Path.{◌≡◌, sym, ◌∙◌}
-use Prim.Native.Nat.{◌-◌, ◌≤◌}
+use Prim.Native.Nat.{◌-◌}
 use native.Mathlib.Omega.{arith}
-use borrow.Author.Rules.{rules}
-use lib.ListN.{length, get_or}
+use lib.ListN.{length}
 use lib.Seq.{take_all}
-use Rattle.grid.proofs.Fill.{Filled, fill_none, fill_more, fill_copy}
+use Rattle.grid.proofs.Fill.{fill_more, fill_copy}
 use Rattle.weighing.proofs.put_found.Goals as goal
 
 pub loop-i-preserved : goal.loop-i-preserved

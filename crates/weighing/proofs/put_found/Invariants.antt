@@ -1,11 +1,7 @@
 -- `weighing::put_found` meets its contract: places filled one by one (`Filled`) hold the field's numbers in the end (`fill_copy`), and there are no others.
-use mathlib.Core.Path.{◌≡◌, sym, ◌∙◌}
 use Prim.Native.Nat.{◌-◌, ◌≤◌}
-use native.Mathlib.Omega.{arith}
-use borrow.Author.Rules.{rules}
 use lib.ListN.{length, get_or}
-use lib.Seq.{take_all}
-use Rattle.grid.proofs.Fill.{Filled, fill_none, fill_more, fill_copy}
+use Rattle.grid.proofs.Fill.{Filled}
 use Rattle.weighing.proofs.put_found.Given as goal
 
 abbrev pub invariant-loop-i : goal.invariant-loop-i

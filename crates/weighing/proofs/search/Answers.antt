@@ -1,11 +1,7 @@
 -- `weighing::search` meets its contract: the starts of its tables are the sources and the zeros that the search begins with.
-use mathlib.Core.Path.{sym}
 use Prim.Native.Nat.{◌≤◌}
-use native.Mathlib.Omega.{arith}
-use borrow.Author.Rules.{rules}
 use lib.IntN.{negsuc}
 use lib.ListN.{length}
-use lib.Seq.{length-take-le}
 use Rattle.model.proofs.Lists.{take_same}
 use Rattle.weighing.proofs.Searches.{few_cells}
 use Rattle.weighing.proofs.search.Goals as goal

@@ -1,8 +1,5 @@
 -- `weighing::search_from` meets its contract: the relaxations are the model's search (`run_is`), and where it is Done the field's numbers fit weights (`fits`).
 use mathlib.Core.Path.{◌≡◌, sym, ap, ◌∙◌}
-use native.Mathlib.Omega.{arith}
-use borrow.Author.Rules.{rules}
-use lib.ListN.{length, length-replicate}
 use Rattle.model.specs.Refusals.{pass, check_of}
 use Rattle.model.specs.Film.{Film}
 use Rattle.model.specs.Result.{unrefused, Gives}
@@ -10,7 +7,7 @@ use Rattle.model.specs.Run.{run_answer_of}
 use Rattle.model.specs.Weighing.{weight_search, search_check}
 use Rattle.model.proofs.Checks.{refused_passes}
 use Rattle.refusals.proofs.Chain.{passed}
-use Rattle.weighing.proofs.Searches.{bare, weighing_limited, run_is, finds, fits}
+use Rattle.weighing.proofs.Searches.{bare, run_is, finds, fits}
 use Rattle.weighing.proofs.search_from.Goals as goal
 
 pub put_found-requires : goal.put_found-requires

@@ -1,22 +1,17 @@
 -- `writing::put_film` meets its contract: five fields, each behind the one before, and then the steps, fill the slice (`film_put`).
--- the steps, and the film, from the last step
 use mathlib.Core.Path.{◌≡◌, ◌∙◌, ap}
-use native.Mathlib.Omega.{arith}
 use mir.Facts.{to_z-of_z}
 use Rattle.model.specs.Gauge.{Gauge}
 use Rattle.model.specs.Bytes.{unsigned_of}
 use Rattle.model.specs.FileCalls.{gauge_of}
-use Rattle.model.proofs.Sides.{cells_low}
-use Rattle.forming.proofs.Cell.{ring_low}
 use Rattle.writing.proofs.Film.{film_put}
-use borrow.Author.Rules.{rules}
 use Rattle.writing.proofs.put_film.Goals as goal
 
 pub returns : goal.returns
 returns c =
     let film : Gauge =
-            let a = c.args in
-        gauge_of a.head a.weights.now a.thicknesses.now a.wedge a.steps in
+    let a = c.args in
+    gauge_of a.head a.weights.now a.thicknesses.now a.wedge a.steps in
     let wedge_bits : c.unsigned.result ≡ unsigned_of film.wedge = c.unsigned.ensures ∙ ap unsigned_of (to_z-of_z c.ranges.wedge) in
     film_put film c.args.out.now c.requires c.put_shape.ensures c.put_number.ensures
     c.put_weights.ensures

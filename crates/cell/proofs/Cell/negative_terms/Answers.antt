@@ -4,7 +4,6 @@ use mathlib.Core.Path.{◌≡◌, ap, ◌∙◌}
 use Rattle.model.specs.Integers.{negative_part}
 use Rattle.cell.proofs.Limits.{source_kept}
 use Rattle.cell.specs.Cell.{negative_terms}
-use borrow.Author.Rules.{rules}
 use Rattle.cell.proofs.Cell.negative_terms.Goals as goal
 
 negative_is : (c : goal.After-struct_known-1) → c.negative_part.result ≡ negative_part c.args.self.source

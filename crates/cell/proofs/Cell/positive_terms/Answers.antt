@@ -3,8 +3,7 @@ use native.Mathlib.Omega.{arith}
 use mathlib.Core.Path.{◌≡◌, ap, ◌∙◌}
 use Rattle.model.specs.Integers.{positive_part}
 use Rattle.cell.specs.Cell.{positive_terms}
-use Rattle.cell.proofs.Limits.{product_small, source_kept}
-use borrow.Author.Rules.{rules}
+use Rattle.cell.proofs.Limits.{source_kept}
 use Rattle.cell.proofs.Cell.positive_terms.Goals as goal
 
 positive_is : (c : goal.After-positive_part) → c.positive_part.result ≡ positive_part c.args.self.source

@@ -1,7 +1,6 @@
 -- `Cell::raise` meets its contract: a cell whose slack is not negative has nothing to be raised to, any other gets what it requires.
 use mathlib.Core.Path.{◌∙◌}
 use native.Mathlib.Omega.{arith}
-use borrow.Author.Rules.{rules}
 use Rattle.cell.proofs.Limits.{raise_quiet, raise_up}
 use Rattle.cell.proofs.Cell.raise.Goals as goal
 

@@ -6,7 +6,6 @@ use Prim.Native.Nat.{ℕ, ◌+◌, ◌-◌, ◌/◌, ◌≤◌}
 use Rattle.model.specs.Relaxation.{required_for}
 use Rattle.cell.specs.Cell.{positive_terms, negative_terms}
 use Rattle.cell.proofs.Limits.{negative_terms_small, met_required}
-use borrow.Author.Rules.{rules}
 use Rattle.cell.proofs.Cell.required.Goals as goal
 
 pub returns-then-negative-positive : goal.returns-then-negative-positive

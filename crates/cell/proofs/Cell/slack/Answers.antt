@@ -6,7 +6,6 @@ use mir.Facts.{to_z-of_z}
 use mir.Syntax.{w64}
 use borrow.Author.Rules.{sfits_of}
 use Rattle.cell.proofs.Limits.{positive_terms_small, negative_terms_small, slack_split}
-use borrow.Author.Rules.{rules}
 use Rattle.cell.proofs.Cell.slack.Goals as goal
 
 pub difference-requires : goal.difference-requires

@@ -1,0 +1,45 @@
+-- `own_proposals::propose_lines` meets its contract: after each turn the lines so far have been proposed as the model proposes them, and no line has more cells
+-- to raise than columns, so that the count fits.
+use mathlib.Core.Path.{◌≡◌, sym, ◌∙◌}
+use mathlib.Core.List.{List}
+use Prim.Native.Nat.{ℕ, ◌+◌, ◌-◌, ◌≤◌}
+use native.Mathlib.Omega.{arith}
+use lib.ListN.{length}
+use Rattle.model.specs.Film.{Film, film_of}
+use Rattle.model.proofs.Bare.{margin_sourceless}
+use Rattle.own_proposals.proofs.Proposals.{Proposing, proposing_begin, proposing_next, proposing_bounded, proposing_long, proposing_done}
+use Rattle.own_proposals.proofs.propose_lines.Goals as goal
+
+abbrev film : Start → Film
+film s = film_of s.args.head s.args.weights.now s.args.diagonals.now s.args.rights.now s.args.ups.now s.args.sources.now
+
+pub loop-line-init : goal.loop-line-init
+loop-line-init c =
+    let entry : Start = c in
+    (omega arith, entry.requires.1, proposing_begin _ _)
+
+pub propose_line-more-requires-clause-accepted : goal.propose_line-more-requires-clause-accepted
+propose_line-more-requires-clause-accepted c =
+    let entry : Start = c in
+    let start : Start = entry in
+    let s = start in (s.pre.0.0, proposing_bounded (film s) s.pre.0.0 s.args.field.now _ _ _ c.loop-line.invariant.2 s.pre.0.1)
+
+pub overflow_add-accepted : goal.overflow_add-accepted
+overflow_add-accepted c =
+    let entry : Start = c in
+    let start : Start = entry in
+    let left : List ℕ = c.propose_line-more.new.field in
+    let next : Proposing (film start) start.args.field.now left (c.loop-line.accepted + c.propose_line-more.result) (c.loop-line.line + 1) =
+    let s = start in
+    proposing_next (film s) s.args.field.now _ _ _ _ _ s.pre.0.0.limited.sized.columns_low c.loop-line.invariant.2 c.propose_line-more.ensures in
+    omega (arith, next.low, c.loop-line-test.true, start.requires.0.0.limited.sized.rows_low)
+
+pub loop-line-preserved : goal.loop-line-preserved
+loop-line-preserved c =
+    let entry : Start = c in
+    let start : Start = entry in
+    let left : List ℕ = c.propose_line-more.new.field in
+    let next : Proposing (film start) start.args.field.now left (c.loop-line.accepted + c.propose_line-more.result) (c.loop-line.line + 1) =
+    let s = start in
+    proposing_next (film s) s.args.field.now _ _ _ _ _ s.pre.0.0.limited.sized.columns_low c.loop-line.invariant.2 c.propose_line-more.ensures in
+    (omega (arith, c.loop-line-test.true), c.propose_line-more.auto.proposal ∙ c.loop-line.invariant.1, next)
