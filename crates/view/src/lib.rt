@@ -4,8 +4,7 @@
 // before the header, and one that is no permitted tag ends the walk. Internal: the readers of both kinds call `fields_test`.
 //
 // Proved: what the tests of the fields of that kind find, and then that for bytes behind them, is what crate `model` says (`fields_check`). A
-// view is taken apart, moved on and made in three thin functions (`viewed`, `moved`, `walk`), whose proofs are walks by hand; all else is
-// covered.
+// view is taken apart, moved on and made in three thin functions (`viewed`, `moved`, `walk`).
 #![tactic(auto)]
 
 ghost use Rattle.std.specs.Prelude.{◌≡◌, ◌≤◌, ◌<◌, eqb};
