@@ -1,10 +1,8 @@
 -- `coefficient_file::read` meets its contract: buffers and fields are tested before 14 and 9 (`load_parts`), and what passes is read.
--- what the first tests find
 use mathlib.Core.Path.{◌≡◌, sym, ap, ◌∙◌}
 use Rattle.model.specs.Refusals.{check_of}
 use Rattle.refusals.proofs.Chain.{joined, passed}
-use Rattle.coefficient_file.proofs.Reading.{opening, opening_passes, load_opened, load_refused}
-use borrow.Author.Rules.{rules}
+use Rattle.coefficient_file.proofs.Reading.{opening, load_opened, load_refused}
 use Rattle.coefficient_file.proofs.read.Goals as goal
 
 pub returns-in-Fine : goal.returns-in-Fine

@@ -1,12 +1,10 @@
 -- `coefficient_file::write` meets its contract: the length that it asks for is the file's where the shape has passed (`save_fits`), and what passes is written.
 use mathlib.Core.Path.{◌≡◌, sym, ap, ◌∙◌}
-use mathlib.Core.Bool.{◌&&◌}
 use Rattle.model.specs.Refusals.{check_of}
 use Rattle.model.specs.Film.{Film, film_of}
 use Rattle.model.specs.CoefficientCalls.{coefficient_save_check}
 use Rattle.refusals.proofs.Chain.{passed}
 use Rattle.coefficient_file.proofs.Writing.{save_fits, save_ready, save_passed, save_refused}
-use borrow.Author.Rules.{rules}
 use Rattle.coefficient_file.proofs.write.Goals as goal
 
 pub put_film-requires : goal.put_film-requires

@@ -4,8 +4,7 @@ use mathlib.Core.Path.{sym, ap, ◌∙◌}
 use Rattle.model.specs.Refusals.{check_of}
 use Rattle.model.specs.Film.{Film, film_of}
 use Rattle.model.specs.Accepted.{Sized}
-use Rattle.coefficient_reading.proofs.Numbers.{sized, weights_room, diagonals_room, rights_room, ups_room, sources_room, film_loaded, whole_film, film_refused, loads_same}
-use borrow.Author.Rules.{rules}
+use Rattle.coefficient_reading.proofs.Numbers.{sized, diagonals_room, rights_room, ups_room, sources_room, film_loaded, whole_film, loads_same}
 use Rattle.coefficient_reading.proofs.hand_over.Goals as goal
 
 pub copy_longs-requires : goal.copy_longs-requires

@@ -8,7 +8,6 @@ use lib.ListN.{length, take}
 use lib.Seq.{length-take-le}
 use Rattle.model.specs.File.{cells_in, carried, carried_in}
 use Rattle.coefficient_reading.proofs.Numbers.{Whole, fields_whole, stands}
-use borrow.Author.Rules.{rules}
 use Rattle.coefficient_reading.proofs.read_fields.Goals as goal
 
 -- each table has room for n numbers, so that its part has as many

@@ -18,7 +18,6 @@ use Rattle.model.proofs.Lists.{tabulate_length}
 use Rattle.refusals.proofs.Chain.{passed}
 use Rattle.checks.proofs.Parts.{sized_unweighted, limited_sourceless}
 use Rattle.coefficient_reading.proofs.Numbers.{cells_are, few_cells, weights_long, sized, coefficients_tested, limited, searchable, weighs_found, weighs_standing, weighs_refused}
-use borrow.Author.Rules.{rules}
 use Rattle.coefficient_reading.proofs.tested.Goals as goal
 
 pub coefficient_test-requires : goal.coefficient_test-requires

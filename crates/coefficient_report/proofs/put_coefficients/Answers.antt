@@ -1,23 +1,20 @@
 -- `coefficient_report::put_coefficients` meets its contract: what was read is the film that the model reads, whose numbers stand at the starts of the buffers,
 -- or its refusal.
-use mathlib.Core.Path.{◌≡◌, refl, sym, ap, subst}
+use mathlib.Core.Path.{◌≡◌, sym, ap, subst}
 use mathlib.Core.List.{List}
 use Prim.Native.Nat.{ℕ, ◌*◌, ◌≤◌}
 use native.Mathlib.Omega.{arith}
-use borrow.Author.Rules.{rules}
 use lib.IntN.{pos}
 use lib.ListN.{length, take, replicate}
 use lib.Seq.{length-take-le}
-use Rattle.fault.specs.Numbers.{number_of}
 use Rattle.model.specs.Film.{Film, film_of}
 use Rattle.model.specs.Accepted.{Accepted}
-use Rattle.model.specs.CoefficientFile.{read_coefficients}
 use Rattle.model.specs.CoefficientCalls.{coefficients_answer_of, LoadsCoefficients, used_film}
-use Rattle.model.specs.Report.{refused_line, film_report, report_by}
+use Rattle.model.specs.Report.{film_report}
 use Rattle.model.proofs.Sides.{cells_low}
 use Rattle.film_text.proofs.Zeros.{take_zeros}
 use Rattle.text.specs.Writes.{Fits, Writes}
-use Rattle.coefficient_report.proofs.Texts.{Read, read_report, refusal_report}
+use Rattle.coefficient_report.proofs.Texts.{Read, read_report}
 use Rattle.coefficient_report.proofs.put_coefficients.Goals as goal
 
 -- a film that was read has few cells, ..
@@ -121,7 +118,7 @@ put_run-requires-clause-accepted c =
     let has : Read c.args.file.now film = read_report c.args.file.now (subst (λ x. LoadsCoefficients c.args.file.now (replicate 1024 0) (replicate 1024 0) (replicate 1024 0) (replicate 1024 0) (replicate 1024 (pos 0)) x c.read.new.weights c.read.new.diagonals c.read.new.rights c.read.new.ups c.read.new.sources) (ap coefficients_answer_of c.in-Film.is) c.read.ensures) in
     let low : c.area-n.result ≤ 1024 = few has c.area-n.ensures in
     let same : film_of c.in-Film.head (take c.area-n.result c.read.new.weights) (take c.area-n.result c.read.new.diagonals) (take c.area-n.result c.read.new.rights) (take c.area-n.result c.read.new.ups) (take c.area-n.result c.read.new.sources) ≡ film =
-            λ k. film_of c.in-Film.head (take (c.area-n.ensures k) c.read.new.weights) (take (c.area-n.ensures k) c.read.new.diagonals) (take (c.area-n.ensures k) c.read.new.rights) (take (c.area-n.ensures k) c.read.new.ups) (take (c.area-n.ensures k) c.read.new.sources) in
+    λ k. film_of c.in-Film.head (take (c.area-n.ensures k) c.read.new.weights) (take (c.area-n.ensures k) c.read.new.diagonals) (take (c.area-n.ensures k) c.read.new.rights) (take (c.area-n.ensures k) c.read.new.ups) (take (c.area-n.ensures k) c.read.new.sources) in
     (subst Accepted (sym same) has.accepted, take_zeros c.area-n.result 1024 low c.area-n.ensures)
 
 pub put_run-requires-clause-fits : goal.put_run-requires-clause-fits
@@ -129,7 +126,7 @@ put_run-requires-clause-fits c =
     let film : Film = used_film c.in-Film.head c.read.new.weights c.read.new.diagonals c.read.new.rights c.read.new.ups c.read.new.sources in
     let has : Read c.args.file.now film = read_report c.args.file.now (subst (λ x. LoadsCoefficients c.args.file.now (replicate 1024 0) (replicate 1024 0) (replicate 1024 0) (replicate 1024 0) (replicate 1024 (pos 0)) x c.read.new.weights c.read.new.diagonals c.read.new.rights c.read.new.ups c.read.new.sources) (ap coefficients_answer_of c.in-Film.is) c.read.ensures) in
     let same : film_of c.in-Film.head (take c.area-n.result c.read.new.weights) (take c.area-n.result c.read.new.diagonals) (take c.area-n.result c.read.new.rights) (take c.area-n.result c.read.new.ups) (take c.area-n.result c.read.new.sources) ≡ film =
-            λ k. film_of c.in-Film.head (take (c.area-n.ensures k) c.read.new.weights) (take (c.area-n.ensures k) c.read.new.diagonals) (take (c.area-n.ensures k) c.read.new.rights) (take (c.area-n.ensures k) c.read.new.ups) (take (c.area-n.ensures k) c.read.new.sources) in
+    λ k. film_of c.in-Film.head (take (c.area-n.ensures k) c.read.new.weights) (take (c.area-n.ensures k) c.read.new.diagonals) (take (c.area-n.ensures k) c.read.new.rights) (take (c.area-n.ensures k) c.read.new.ups) (take (c.area-n.ensures k) c.read.new.sources) in
     subst (λ (x : Film). Fits (film_report x) c.args.out.now 0) (sym same) (subst (λ (l : List ℕ). Fits l c.args.out.now 0) has.text c.requires)
 
 pub returns-in-Film : goal.returns-in-Film
@@ -137,6 +134,6 @@ returns-in-Film c =
     let film : Film = used_film c.in-Film.head c.read.new.weights c.read.new.diagonals c.read.new.rights c.read.new.ups c.read.new.sources in
     let has : Read c.args.file.now film = read_report c.args.file.now (subst (λ x. LoadsCoefficients c.args.file.now (replicate 1024 0) (replicate 1024 0) (replicate 1024 0) (replicate 1024 0) (replicate 1024 (pos 0)) x c.read.new.weights c.read.new.diagonals c.read.new.rights c.read.new.ups c.read.new.sources) (ap coefficients_answer_of c.in-Film.is) c.read.ensures) in
     let same : film_of c.in-Film.head (take c.area-n.result c.read.new.weights) (take c.area-n.result c.read.new.diagonals) (take c.area-n.result c.read.new.rights) (take c.area-n.result c.read.new.ups) (take c.area-n.result c.read.new.sources) ≡ film =
-            λ k. film_of c.in-Film.head (take (c.area-n.ensures k) c.read.new.weights) (take (c.area-n.ensures k) c.read.new.diagonals) (take (c.area-n.ensures k) c.read.new.rights) (take (c.area-n.ensures k) c.read.new.ups) (take (c.area-n.ensures k) c.read.new.sources) in
+    λ k. film_of c.in-Film.head (take (c.area-n.ensures k) c.read.new.weights) (take (c.area-n.ensures k) c.read.new.diagonals) (take (c.area-n.ensures k) c.read.new.rights) (take (c.area-n.ensures k) c.read.new.ups) (take (c.area-n.ensures k) c.read.new.sources) in
     subst (λ (l : List ℕ). Writes l c.args.out.now 0 c.put_run.new.out c.put_run.result) (sym has.text)
     (subst (λ (x : Film). Writes (film_report x) c.args.out.now 0 c.put_run.new.out c.put_run.result) same c.put_run.ensures)

@@ -8,9 +8,8 @@ use Rattle.model.specs.Report.{head_line, report_run, answer_text}
 use Rattle.model.proofs.Bare.{bare}
 use Rattle.render.specs.Answer.{text_of}
 use Rattle.text.specs.Writes.{Fits, Writes}
-use Rattle.text.proofs.Writes.{fits_first, fits_rest, writes_then}
+use Rattle.text.proofs.Writes.{fits_rest, writes_then}
 use Rattle.film_text.proofs.Answer.{answer_bare, Reports, run_reports}
-use borrow.Author.Rules.{rules}
 use Rattle.film_text.proofs.put_run.Goals as goal
 
 pub put_answer-requires-clause-field_len : goal.put_answer-requires-clause-field_len

@@ -18,7 +18,6 @@ use Rattle.grid.proofs.Limited.{size_low}
 use Rattle.text.specs.Writes.{Fits, Writes}
 use Rattle.forming.proofs.Film.{film_formed}
 use Rattle.film_text.proofs.Zeros.{take_zeros}
-use borrow.Author.Rules.{rules}
 use Rattle.gauged_report.proofs.put_film.Goals as goal
 
 pub form-requires-clause-ringed : goal.form-requires-clause-ringed
@@ -30,15 +29,15 @@ form-requires-clause-ringed c =
     let shape = gauge_shape gauge numbers.shape in
     let n = low in
     let v = c.requires.values.0 in (
-        record {
-          rows_some = shape.rows_some;
-          rows_low = shape.rows_low;
-          columns_some = shape.columns_some;
-          columns_low = shape.columns_low;
-          thicknesses_len = v.thicknesses_len;
-        },
-        stepped c.args.steps _ numbers.steps,
-      )
+      record {
+        rows_some = shape.rows_some;
+        rows_low = shape.rows_low;
+        columns_some = shape.columns_some;
+        columns_low = shape.columns_low;
+        thicknesses_len = v.thicknesses_len;
+      },
+      stepped c.args.steps _ numbers.steps,
+    )
 
 pub form-requires-clause-room : goal.form-requires-clause-room
 form-requires-clause-room c =
@@ -49,11 +48,11 @@ form-requires-clause-room c =
     let shape = gauge_shape gauge numbers.shape in
     let n = low in
     let v = c.requires.values.0 in record {
-        diagonals_room = omega (arith, v.weights_len);
-        rights_room = omega (arith, v.weights_len);
-        ups_room = omega (arith, v.weights_len);
-        sources_room = omega (arith, v.weights_len);
-      }
+      diagonals_room = omega (arith, v.weights_len);
+      rights_room = omega (arith, v.weights_len);
+      ups_room = omega (arith, v.weights_len);
+      sources_room = omega (arith, v.weights_len);
+    }
 
 pub slice_bounds-diagonals-end : goal.slice_bounds-diagonals-end
 slice_bounds-diagonals-end c =
@@ -131,9 +130,9 @@ put_run-requires-clause-accepted c =
     let accepted : Accepted (formed gauge) = formed_accepted gauge c.requires.values.0 c.requires.values.1 in
     let low : length c.args.weights.now ≤ 1024 = omega (arith, c.requires.values.0.weights_len, size_low accepted.limited.sized) in
     let film : Film =
-            let n = length c.args.weights.now in
-        film_of c.args.head c.args.weights.now (take n c.form.new.diagonals) (take n c.form.new.rights) (take n c.form.new.ups)
-        (take n c.form.new.sources) in
+    let n = length c.args.weights.now in
+    film_of c.args.head c.args.weights.now (take n c.form.new.diagonals) (take n c.form.new.rights) (take n c.form.new.ups)
+    (take n c.form.new.sources) in
     let film_is : film ≡ formed gauge = film_formed c.args.head c.args.weights.now c.args.thicknesses.now c.args.wedge c.args.steps c.requires.values.0.weights_len (rw (to_z-of_z c.ranges.wedge) at c.form.ensures) in
     (subst Accepted (sym film_is) accepted, take_zeros (length c.args.weights.now) 1024 low c.requires.values.0.weights_len)
 
@@ -141,9 +140,9 @@ pub put_run-requires-clause-fits : goal.put_run-requires-clause-fits
 put_run-requires-clause-fits c =
     let gauge : Gauge = gauge_of c.args.head c.args.weights.now c.args.thicknesses.now c.args.wedge c.args.steps in
     let film : Film =
-            let n = length c.args.weights.now in
-        film_of c.args.head c.args.weights.now (take n c.form.new.diagonals) (take n c.form.new.rights) (take n c.form.new.ups)
-        (take n c.form.new.sources) in
+    let n = length c.args.weights.now in
+    film_of c.args.head c.args.weights.now (take n c.form.new.diagonals) (take n c.form.new.rights) (take n c.form.new.ups)
+    (take n c.form.new.sources) in
     let film_is : film ≡ formed gauge = film_formed c.args.head c.args.weights.now c.args.thicknesses.now c.args.wedge c.args.steps c.requires.values.0.weights_len (rw (to_z-of_z c.ranges.wedge) at c.form.ensures) in
     subst (λ (x : Film). Fits (film_report x) c.args.out.now 0) (sym film_is) c.requires.fits
 
@@ -151,8 +150,8 @@ pub returns : goal.returns
 returns c =
     let gauge : Gauge = gauge_of c.args.head c.args.weights.now c.args.thicknesses.now c.args.wedge c.args.steps in
     let film : Film =
-            let n = length c.args.weights.now in
-        film_of c.args.head c.args.weights.now (take n c.form.new.diagonals) (take n c.form.new.rights) (take n c.form.new.ups)
-        (take n c.form.new.sources) in
+    let n = length c.args.weights.now in
+    film_of c.args.head c.args.weights.now (take n c.form.new.diagonals) (take n c.form.new.rights) (take n c.form.new.ups)
+    (take n c.form.new.sources) in
     let film_is : film ≡ formed gauge = film_formed c.args.head c.args.weights.now c.args.thicknesses.now c.args.wedge c.args.steps c.requires.values.0.weights_len (rw (to_z-of_z c.ranges.wedge) at c.form.ensures) in
     subst (λ (x : Film). Writes (film_report x) c.args.out.now 0 c.put_run.new.out c.put_run.result) film_is c.put_run.ensures

@@ -4,24 +4,22 @@ use mathlib.Core.Bool.{true}
 use mathlib.Core.List.{List}
 use Prim.Native.Nat.{ℕ, ◌≤◌}
 use native.Mathlib.Omega.{arith}
-use lib.ListN.{length, take, replicate, length-replicate}
+use lib.ListN.{length, take, replicate}
 use lib.Seq.{length-take-le}
 use mir.Syntax.{w32}
 use mir.Val.{to_z, of_z}
-use Rattle.fault.specs.Numbers.{number_of}
 use Rattle.model.specs.Refusals.{pass}
 use Rattle.model.specs.Gauge.{Gauge}
 use Rattle.model.specs.Coefficients.{formed}
-use Rattle.model.specs.File.{read_film, Bytes, Values, gauge_check}
+use Rattle.model.specs.File.{Bytes, Values, gauge_check}
 use Rattle.model.specs.FileCalls.{gauge_of, load_answer_of, Loads, used}
-use Rattle.model.specs.EitherFile.{formed_by}
-use Rattle.model.specs.Report.{refused_line, film_report, report_by}
+use Rattle.model.specs.Report.{film_report}
 use Rattle.model.proofs.File.{gauge_passes, gauge_shape}
 use Rattle.model.proofs.Opening.{Shaped}
 use Rattle.model.proofs.Sides.{cells_low}
 use Rattle.forming.proofs.Cell.{ring_low}
 use Rattle.text.specs.Writes.{Fits, Writes}
-use Rattle.gauged_report.proofs.Texts.{Read, read_report, refusal_report}
+use Rattle.gauged_report.proofs.Texts.{Read, read_report}
 use borrow.Author.Rules.{rules}
 use Rattle.gauged_report.proofs.put_gauged.Goals as goal
 

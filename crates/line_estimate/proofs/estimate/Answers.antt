@@ -2,13 +2,11 @@
 -- line's first cell on.
 use mathlib.Core.Path.{◌≡◌, sym, ap, ◌∙◌}
 use native.Mathlib.Omega.{arith}
-use borrow.Author.Rules.{rules}
 use Rattle.model.specs.Refusals.{pass, check_of}
 use Rattle.model.specs.Film.{Film, film_of}
 use Rattle.model.proofs.Bare.{margin_sourceless}
 use Rattle.model.specs.Proposal.{row_check}
 use Rattle.line_checks.proofs.Passed.{LinePassed, line_ready}
-use Rattle.line_estimate.proofs.Calls.{estimate_passed, estimate_refused}
 use Rattle.line_estimate.proofs.estimate.Goals as goal
 
 pub line_start-first-requires : goal.line_start-first-requires

@@ -1,14 +1,12 @@
 -- `line_estimate::margin` meets its contract: its tests are the model's, in its order, and the margin of a film that passes them needs no sources.
--- the start, from the tests
 use mathlib.Core.Path.{◌≡◌, sym, ap, ◌∙◌}
 use mathlib.Core.Bool.{true}
-use borrow.Author.Rules.{rules}
 use Rattle.model.specs.Refusals.{pass, check_of}
 use Rattle.model.specs.Film.{Film, film_of}
 use Rattle.model.specs.Checks.{film_check}
 use Rattle.model.proofs.Checks.{check_passes}
 use Rattle.checks.proofs.Own.{film_own}
-use Rattle.line_estimate.proofs.Calls.{margin_passed, margin_refused}
+use Rattle.line_estimate.proofs.Calls.{margin_passed}
 use Rattle.line_estimate.proofs.margin.Goals as goal
 
 pub margin-requires : goal.margin-requires

@@ -1,13 +1,6 @@
 -- `own_proposals::propose_line` meets its contract: the line is inside the grid, the proposal is the model's estimate, and the decision on it is the model's too.
--- the start, from the line's
-use mathlib.Core.Path.{◌∙◌}
-use Prim.Native.Nat.{◌+◌, ◌≤◌}
-use native.Mathlib.Omega.{arith}
-use borrow.Author.Rules.{rules}
-use Rattle.model.specs.Film.{Film, film_of, size_of}
-use Rattle.model.specs.Proposal.{line_start}
+use Rattle.model.specs.Film.{Film, film_of}
 use Rattle.own_proposals.proofs.Proposals.{own_gives}
-use Rattle.proposal.proofs.Lines.{row_inside}
 use Rattle.own_proposals.proofs.propose_line.Goals as goal
 
 pub returns : goal.returns

@@ -1,13 +1,12 @@
 -- `own_proposals::propose_lines` meets its contract: after each turn the lines so far have been proposed as the model proposes them, and no line has more cells
 -- to raise than columns, so that the count fits.
-use mathlib.Core.Path.{◌≡◌, sym, ◌∙◌}
+use mathlib.Core.Path.{◌∙◌}
 use mathlib.Core.List.{List}
-use Prim.Native.Nat.{ℕ, ◌+◌, ◌-◌, ◌≤◌}
+use Prim.Native.Nat.{ℕ, ◌+◌, ◌-◌}
 use native.Mathlib.Omega.{arith}
-use lib.ListN.{length}
 use Rattle.model.specs.Film.{Film, film_of}
 use Rattle.model.proofs.Bare.{margin_sourceless}
-use Rattle.own_proposals.proofs.Proposals.{Proposing, proposing_begin, proposing_next, proposing_bounded, proposing_long, proposing_done}
+use Rattle.own_proposals.proofs.Proposals.{Proposing, proposing_begin, proposing_next, proposing_bounded}
 use Rattle.own_proposals.proofs.propose_lines.Goals as goal
 
 pub loop-line-init : goal.loop-line-init

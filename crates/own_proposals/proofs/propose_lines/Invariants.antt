@@ -1,13 +1,10 @@
 -- `own_proposals::propose_lines` meets its contract: after each turn the lines so far have been proposed as the model proposes them, and no line has more cells
 -- to raise than columns, so that the count fits.
-use mathlib.Core.Path.{◌≡◌, sym, ◌∙◌}
-use mathlib.Core.List.{List}
-use Prim.Native.Nat.{ℕ, ◌+◌, ◌-◌, ◌≤◌}
-use native.Mathlib.Omega.{arith}
+use mathlib.Core.Path.{◌≡◌}
+use Prim.Native.Nat.{◌-◌, ◌≤◌}
 use lib.ListN.{length}
-use Rattle.model.specs.Film.{Film, film_of}
-use Rattle.model.proofs.Bare.{margin_sourceless}
-use Rattle.own_proposals.proofs.Proposals.{Proposing, proposing_begin, proposing_next, proposing_bounded, proposing_long, proposing_done}
+use Rattle.model.specs.Film.{film_of}
+use Rattle.own_proposals.proofs.Proposals.{Proposing}
 use Rattle.own_proposals.proofs.propose_lines.Given as goal
 
 abbrev pub invariant-loop-line : goal.invariant-loop-line

@@ -1,9 +1,4 @@
 -- `own_proposals::ready` meets its contract: without a budget or with proposals off nothing changes, and the lines are proposed otherwise.
--- the start, from where all slices are known
-use mathlib.Core.Path.{sym}
-use borrow.Author.Rules.{rules}
-use borrow.Author.Tests.{not-true, not-false}
-use lib.Seq.{length-take-le}
 use Rattle.model.specs.Film.{Film, film_of}
 use Rattle.own_proposals.proofs.Proposals.{ready_none, ready_off, ready_on}
 use Rattle.own_proposals.proofs.ready.Goals as goal
