@@ -1,7 +1,6 @@
 -- `report::report` meets its contract: a buffer that could not hold the longest report is refused, and any other holds this one (`report_fits`).
 use Rattle.model.specs.File.{Bytes}
-use Rattle.report.proofs.Texts.{short_refused, long_fits, long_written}
-use borrow.Author.Rules.{rules}
+use Rattle.report.proofs.Texts.{long_fits, long_written}
 use Rattle.report.proofs.report.Goals as goal
 
 pub put_report-requires : goal.put_report-requires
