@@ -206,11 +206,19 @@ fn show(rt: &impl Print, file: &[u8]) -> io::Result<()> {
     film_in(rt, file, &mut weights, &mut thicknesses)
 }
 
-fn show_file(rt: &(impl Files + Print), path: &str) -> io::Result<()> {
+fn show_file(rt: &(impl Files + Print + Eprint), path: &str) -> io::Result<()> {
     println!(rt; "{path}")?;
-    let mut bytes = [0u8; 4096];
-    let n = intake::fill(&mut fs::open(rt, path)?, &mut bytes)?;
-    show(rt, &bytes[..n])
+    match fs::open(rt, path) {
+        Ok(mut file) => {
+            let mut bytes = [0u8; 4096];
+            let n = intake::fill(&mut file, &mut bytes)?;
+            show(rt, &bytes[..n])
+        }
+        Err(e) => {
+            let _ = eprintln!(rt; "{path}: {e}");
+            Ok(())
+        }
+    }
 }
 
 fn main(rt: HostRuntime) -> io::Result<()> {
