@@ -1,5 +1,6 @@
 -- Demand 3 of the calls for C, from what stands in their `ensures`: a film that was read and formed through them is a session's (`session_told`), and
 -- each `film_run` and `film_propose` on it is a step (`run_step`, `propose_step`). So all that is claimed of lists of steps holds of them.
+use Rattle.std.specs.Prelude.{Option, Some, None}
 use mathlib.Core.Path.{◌≡◌, refl, sym, ap, ◌∙◌, subst}
 use mathlib.Core.Bool.{Bool}
 use mathlib.Core.List.{List, [], ◌∷◌}
@@ -11,21 +12,20 @@ use Rattle.model.specs.Refusals.{Check, pass, fail, Numbered}
 use Rattle.model.specs.Result.{Answer, answered, answer_by, refusal_in}
 use Rattle.model.specs.Film.{Film}
 use Rattle.model.specs.File.{gauge_in, Bytes}
-use Rattle.model.specs.FileCalls.{LoadAnswer, film, load_answer, load_check, Loads, used}
+use Rattle.model.specs.FileCalls.{film, load_answer, load_check, Loads, used}
 use Rattle.model.specs.Proposal.{ProposalAnswer, propose, line_start, row_check, propose_call}
 use Rattle.model.specs.Run.{RunAnswer, run, run_check, run_call}
 use Rattle.model.specs.Demand.{ran, proposed, Kept, Claimed}
 use Rattle.model.specs.CoefficientFile.{film_in}
 use Rattle.model.specs.CoefficientCalls.{film_head, coefficient_load_check, LoadsCoefficients}
 use Rattle.model.specs.Session.{Session, from_gauge, from_coefficients}
-use Rattle.model.specs.declared.Steps.{Steps}
-use Rattle.model.specs.declared.Steps.TheVariants as variants
 use Rattle.model.proofs.Numbered.{run_numbered, row_numbered, load_numbered, coefficient_load_numbered}
 use Rattle.model.proofs.Session.{demand_3_calls}
 use Rattle.told.specs.Refused.{number_in}
 use Rattle.tell.specs.Numbers.{run_numbers, RunTold, propose_numbers, ProposeTold}
 use Rattle.tell_files.specs.Files.{steps_numbers, LoadTold, HeadTold}
 use Rattle.archive.specs.Lent.{lent_head, lent_steps, lent_film, Leaves, read_answer, ReadTold, lent_coefficients, coefficients_answer, CoefficientsTold, FormTold}
+use Rattle.model.specs.declared.Factors.{Factors}
 
 -- a refusal's number is not 0, so that 0 is returned just where a call answered
 answered_0 : {A : Type 0} (tests : Check) (a : A) → Numbered tests → 0 ≡ number_in (refusal_in (answer_by tests a)) → answer_by tests a ≡ answered a
@@ -60,10 +60,10 @@ module _ (f : Film) (entry : List ℕ) {exit : List ℕ} where
       (made, L.told.result_is ∙ ap (λ a. propose_numbers a result) e, record { answer_is = sym e; lent_is = L.lent_is })
 
 -- steps that were told are those that are lent from there
-steps_lent : (s : Steps) (old : List ℕ) → lent_steps (steps_numbers s old) ≡ s
-steps_lent variants.Absent [] = refl
-steps_lent variants.Absent (x ∷ old) = refl
-steps_lent (variants.Given f) old = refl
+steps_lent : (s : Option Factors) (old : List ℕ) → lent_steps (steps_numbers s old) ≡ s
+steps_lent None [] = refl
+steps_lent None (x ∷ old) = refl
+steps_lent (Some f) old = refl
 
 -- ---- a file for which `film_read` returned 0, and its coefficients, formed into slices of N by `film_form`
 

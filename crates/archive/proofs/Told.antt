@@ -1,4 +1,5 @@
 -- What was told of the answer that a call gave is told of the answer that document 01 gives.
+use Rattle.std.specs.Prelude.{Option}
 use mathlib.Core.Path.{◌≡◌, refl, subst}
 use mathlib.Core.List.{List}
 use Prim.Native.Nat.{ℕ}
@@ -8,11 +9,11 @@ use Rattle.model.specs.Result.{Answer, refusal_in, Result, Gives}
 use Rattle.model.specs.FileCalls.{gauge_of, save_call, LoadAnswer, Loads, Forms}
 use Rattle.model.specs.CoefficientCalls.{LoadsCoefficients, convert_call}
 use Rattle.model.specs.declared.Head.{Head}
-use Rattle.model.specs.declared.Steps.{Steps}
 use Rattle.told.specs.Refused.{Told}
 use Rattle.tell.specs.Numbers.{SlackTold, MarginTold}
 use Rattle.tell_files.specs.Files.{LoadTold, HeadTold}
 use Rattle.archive.specs.Lent.{Leaves, ReadTold, CoefficientsTold, FormTold}
+use Rattle.model.specs.declared.Factors.{Factors}
 
 pub slack_told : {a b : Answer ℤ} {z z' : ℤ} {p n p' : ℕ} → a ≡ b → SlackTold a z p n z' p' → SlackTold b z p n z' p'
 slack_told {z = z} {z' = z'} {p = p} {n = n} {p' = p'} e told = subst (λ (x : Answer ℤ). SlackTold x z p n z' p') e told
@@ -25,7 +26,7 @@ leaves {Tells = Tells} gave told = record { told = subst Tells gave.answer_is to
 
 -- the wedge number that the code hands on is the one that was lent
 pub save_by_wedge :
-    (h : Head) (weights thicknesses : List ℕ) (s : Steps) (out : List ℕ) {w wedge : ℤ} {a : Answer (Unit {0})} {exit : List ℕ} → w ≡ wedge
+    (h : Head) (weights thicknesses : List ℕ) (s : Option Factors) (out : List ℕ) {w wedge : ℤ} {a : Answer (Unit {0})} {exit : List ℕ} → w ≡ wedge
     → Gives (save_call (gauge_of h weights thicknesses w s) out) a exit → Gives (save_call (gauge_of h weights thicknesses wedge s) out) a exit
 save_by_wedge h weights thicknesses s out {a = a} {exit = exit} e gave = subst (λ (z : ℤ). Gives (save_call (gauge_of h weights thicknesses z s) out) a exit) e gave
 
@@ -70,6 +71,6 @@ coefficients_told {h = h} {h' = h'} {p = p} {n = n} {p' = p'} loads told =
     }
 
 pub convert_by_wedge :
-    (h : Head) (weights thicknesses : List ℕ) (s : Steps) (out : List ℕ) {w wedge : ℤ} {a : Answer (Unit {0})} {exit : List ℕ} → w ≡ wedge
+    (h : Head) (weights thicknesses : List ℕ) (s : Option Factors) (out : List ℕ) {w wedge : ℤ} {a : Answer (Unit {0})} {exit : List ℕ} → w ≡ wedge
     → Gives (convert_call (gauge_of h weights thicknesses w s) out) a exit → Gives (convert_call (gauge_of h weights thicknesses wedge s) out) a exit
 convert_by_wedge h weights thicknesses s out {a = a} {exit = exit} e gave = subst (λ (z : ℤ). Gives (convert_call (gauge_of h weights thicknesses z s) out) a exit) e gave

@@ -1,5 +1,5 @@
 -- A film as a caller in C hands it over, and what a call with lent slices leaves.
-use Rattle.std.specs.Prelude.{◌≡◌, cond, List, ℕ, ◌*◌, eqb, ℤ, get_or, take}
+use Rattle.std.specs.Prelude.{◌≡◌, cond, List, ℕ, ◌*◌, eqb, ℤ, get_or, take, Option, Some, None}
 use Rattle.model.specs.Gauge.{Gauge}
 use Rattle.model.specs.Film.{Film, film_of}
 use Rattle.model.specs.Result.{Answer, answer_by, refusal_in, Result}
@@ -8,18 +8,17 @@ use Rattle.model.specs.FileCalls.{LoadAnswer, Forms, Loads, form_check, load_ans
 use Rattle.model.specs.CoefficientFile.{film_in}
 use Rattle.model.specs.CoefficientCalls.{film_head, coefficient_load_check, LoadsCoefficients, used_film}
 use Rattle.model.specs.declared.Head.{Head}
-use Rattle.model.specs.declared.Steps.{Steps}
-use Rattle.model.specs.declared.Steps.TheVariants as variants
 use Rattle.told.specs.Refused.{Told}
 use Rattle.tell_files.specs.Files.{LoadTold, HeadTold}
+use Rattle.model.specs.declared.Factors.{Factors}
 
 -- a head as it is lent: rows, columns, ceiling
 abbrev pub lent_head : List ℕ → Head
 lent_head head = record { rows = get_or head 0 0; columns = get_or head 1 0; ceiling = get_or head 2 0 }
 
 -- steps as they are lent: 0 where the film has no field for them, and else any number; along; across
-abbrev pub lent_steps : List ℕ → Steps
-lent_steps steps = cond (eqb (get_or steps 0 0) 0) variants.Absent (variants.Given (record { along = get_or steps 1 0; across = get_or steps 2 0 }))
+abbrev pub lent_steps : List ℕ → Option Factors
+lent_steps steps = cond (eqb (get_or steps 0 0) 0) None (Some (record { along = get_or steps 1 0; across = get_or steps 2 0 }))
 
 -- the film that runs and proposals are lent: a head, the weights at the start of the reader's buffer, and formed coefficients
 abbrev pub lent_film : List ℕ → List ℕ → List ℕ → List ℕ → List ℕ → List ℤ → Film

@@ -8,7 +8,7 @@
 ghost use Rattle.std.specs.Prelude.{◌≡◌};
 ghost use Rattle.archive.specs.Lent.{lent_head, lent_steps};
 
-use model::{Factors, Head, Steps};
+use model::{Factors, Head};
 
 // The head that a caller lends: rows, columns, ceiling. In C it is `film_head`, a struct of these numbers alone, which is laid out as the array.
 pub fn head_of(head: &[u32; 3]) -> Head
@@ -23,13 +23,13 @@ pub fn head_of(head: &[u32; 3]) -> Head
 
 // The grid steps that a caller lends: whether the film has a field for them, along, across. Where it has none, the two are not looked at. In C they
 // are `film_steps`.
-pub fn steps_of(steps: &[u32; 3]) -> Steps
+pub fn steps_of(steps: &[u32; 3]) -> Option<Factors>
     ensures { result ≡ lent_steps steps.now }
 {
     if steps[0] == 0 {
-        return Steps::Absent;
+        return None;
     }
-    Steps::Given(Factors {
+    Some(Factors {
         along: steps[1],
         across: steps[2],
     })

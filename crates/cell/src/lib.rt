@@ -5,7 +5,7 @@
 // Proved: each function equals document 01's definition (crate `model`), within limits that leave every sum room.
 #![tactic(auto)]
 
-ghost use Rattle.std.specs.Prelude.{◌≡◌, ◌≤◌, ◌*◌, ◌^◌, max};
+ghost use Rattle.std.specs.Prelude.{◌≡◌, ◌≤◌, ◌*◌, ◌^◌};
 ghost use Rattle.std.proofs.Math.IntN.{sub_ℕ};
 ghost use Rattle.model.specs.Integers.{positive_part, negative_part};
 ghost use Rattle.model.specs.Film.{slack_of};
@@ -17,20 +17,14 @@ ghost use Rattle.cell.specs.Cell.{Bounded, positive_terms, negative_terms};
 pub fn positive_part(source: i64) -> u64
     ensures { result ≡ positive_part source }
 {
-    if source < 0 {
-        return 0;
-    }
-    source as u64
+    source.max(0) as u64
 }
 
 // How far a signed number is below 0.
 pub fn negative_part(source: i64) -> u64
     ensures { result ≡ negative_part source }
 {
-    if source < 0 {
-        return ((-(source + 1)) as u64) + 1;
-    }
-    0
+    source.min(0).unsigned_abs()
 }
 
 // The signed difference of two numbers.
@@ -38,24 +32,14 @@ pub fn difference(a: u64, b: u64) -> i64
     requires { (a ≤ 2 ^ 62) × (b ≤ 2 ^ 62) }
     ensures { result ≡ sub_ℕ a b }
 {
-    if a < b {
-        return 0 - ((b - a) as i64);
-    }
-    (a - b) as i64
+    a as i64 - b as i64
 }
 
 // The whole product of two numbers.
 pub fn product(a: u32, b: u32) -> u64
     ensures { result ≡ a * b }
 {
-    (a as u64) * (b as u64)
-}
-
-// The larger of two numbers.
-pub fn larger(a: u32, b: u32) -> u32
-    ensures { result ≡ max a b }
-{
-    if a < b { b } else { a }
+    u64::from(a) * u64::from(b)
 }
 
 #[derive(Clone, Copy)]
@@ -67,6 +51,7 @@ pub struct Cell {
 
 impl Cell {
     // The positive terms of the cell's slack at a pressure, and the negative ones: the slack is their difference.
+    #[tactic(auto, using(crate::proofs::Limits::source_kept), unfolding(crate::specs::Cell::positive_terms))]
     fn positive_terms(self, pressure: u32) -> u64
         requires { Bounded self }
         ensures { result ≡ positive_terms self pressure }
@@ -74,6 +59,7 @@ impl Cell {
         product(self.diagonal, pressure) + positive_part(self.source)
     }
 
+    #[tactic(auto, using(crate::proofs::Limits::source_kept), unfolding(crate::specs::Cell::negative_terms))]
     fn negative_terms(self) -> u64
         requires { Bounded self }
         ensures { result ≡ negative_terms self }

@@ -1,3 +1,2 @@
 -- Laws that the proofs of the functions, and other crates, share.
-pub mod RightSide
-pub mod Recall
+pub mod Steps

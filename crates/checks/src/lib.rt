@@ -9,79 +9,55 @@
 
 ghost use Rattle.std.specs.Prelude.{◌≡◌};
 ghost use Rattle.model.specs.Refusals.{check_of};
-ghost use Rattle.model.specs.Film.{film_of};
-ghost use Rattle.model.specs.Checks.{field_check};
+ghost use Rattle.model.specs.Checks.{film_fits, field_check};
 ghost use Rattle.model.specs.Accepted.{Sized};
 ghost use Rattle.checks.specs.Own.{value_check, own_check};
 
-use model::{Head, Tested};
+use model::{Film, Refusal};
 
 // Refusals 14, 6 and 9, of a film whose shape, ceiling and lengths have passed.
-fn value_tests(
-    head: Head,
-    weights: &[u16],
-    diagonals: &[u32],
-    rights: &[u32],
-    ups: &[u32],
-    sources: &[i64],
-) -> Tested
-    requires { Sized (film_of head weights.now diagonals.now rights.now ups.now sources.now) }
-    ensures { check_of result ≡ value_check (film_of head weights.now diagonals.now rights.now ups.now sources.now) }
+fn value_tests(film: &Film) -> Result<(), Refusal>
+    requires { Sized film.now }
+    ensures { check_of result ≡ value_check film.now }
 {
-    match limits::coefficient_test(head, diagonals, rights, ups, sources) {
-        Tested::Fine => {
-            let weight = list_tests::weight_test(weights, 0, 1);
-            let row_sum = dominance::dominance_test(head, weights, diagonals, rights, ups);
-            refusals::or_else(weight, row_sum)
-        }
-        Tested::Refused(r) => Tested::Refused(r),
-    }
+    limits::coefficient_test(film)?;
+    list_tests::weight_test(film.weights, 0, 1)?;
+    dominance::dominance_test(film)
+}
+
+// Whether the film's slices have a number for each cell.
+pub fn film_fits(film: &Film) -> bool
+    ensures { result ≡ film_fits film.now }
+{
+    let n = shape::area(film.head.rows, film.head.columns);
+    (film.weights.len() == n)
+        & (film.diagonals.len() == n)
+        & (film.rights.len() == n)
+        & (film.ups.len() == n)
+        & (film.sources.len() == n)
 }
 
 // The tests of a film as it is lent; `fits` says whether the call's other slices have their lengths.
-pub fn film_tests(
-    head: Head,
-    weights: &[u16],
-    diagonals: &[u32],
-    rights: &[u32],
-    ups: &[u32],
-    sources: &[i64],
-    fits: bool,
-) -> Tested
-    ensures { check_of result ≡ own_check (film_of head weights.now diagonals.now rights.now ups.now sources.now) fits }
+pub fn film_tests(film: &Film, fits: bool) -> Result<(), Refusal>
+    ensures { check_of result ≡ own_check film.now fits }
 {
-    let n = shape::area(head.rows, head.columns);
-    let lengths = (weights.len() == n)
-        & (diagonals.len() == n)
-        & (rights.len() == n)
-        & (ups.len() == n)
-        & (sources.len() == n);
-    match refusals::size_test(head, lengths & fits) {
-        Tested::Fine => value_tests(head, weights, diagonals, rights, ups, sources),
-        Tested::Refused(r) => Tested::Refused(r),
-    }
+    refusals::size_test(film.head, film_fits(film) & fits)?;
+    value_tests(film)
 }
 
-// The tests of a call that is lent a field too; `order` and `place` are its tests 11 and 13, Fine if it has no such input.
+// The tests of a call that is lent a field too; `order` and `place` are its tests 11 and 13, Ok if it has no such input.
 pub fn field_tests(
-    head: Head,
-    weights: &[u16],
-    diagonals: &[u32],
-    rights: &[u32],
-    ups: &[u32],
-    sources: &[i64],
+    film: &Film,
     field: &[u32],
     fits: bool,
-    order: Tested,
-    place: Tested,
-) -> Tested
-    ensures { check_of result ≡ field_check (film_of head weights.now diagonals.now rights.now ups.now sources.now) field.now fits (check_of order) (check_of place) }
+    order: Result<(), Refusal>,
+    place: Result<(), Refusal>,
+) -> Result<(), Refusal>
+    ensures { check_of result ≡ field_check film.now field.now fits (check_of order) (check_of place) }
 {
-    let whole = field.len() == shape::area(head.rows, head.columns);
-    let film = film_tests(head, weights, diagonals, rights, ups, sources, whole & fits);
-    let start = list_tests::start_test(field, head.ceiling);
-    refusals::or_else(
-        film,
-        refusals::or_else(order, refusals::or_else(start, place)),
-    )
+    let whole = field.len() == shape::area(film.head.rows, film.head.columns);
+    film_tests(film, whole & fits)?;
+    order?;
+    list_tests::start_test(field, film.head.ceiling)?;
+    place
 }

@@ -1,12 +1,12 @@
 -- The writer by what its tests find.
-use mathlib.Core.Path.{◌≡◌}
+use mathlib.Core.Path.{◌≡◌, ap, ◌∙◌}
 use mathlib.Core.Bool.{not, ◌&&◌}
 use mathlib.Core.List.{List}
 use Prim.Native.Nat.{ℕ}
 use borrow.Author.Tests.{eqb-true, not-false}
 use lib.Dec.{eqb}
 use lib.ListN.{length}
-use Rattle.model.specs.Refusals.{pass, fail, ◌or_else◌, fail_if}
+use Rattle.model.specs.Refusals.{Check, pass, fail, fail_if}
 use Rattle.model.specs.Film.{Film, size_of}
 use Rattle.model.specs.Checks.{shape_check, film_fits}
 use Rattle.model.specs.Result.{answered, refused, Gives}
@@ -21,13 +21,16 @@ use Rattle.coefficient_writing.proofs.Film.{length_known}
 
 module _ (f : Film) (out : List ℕ) where
   -- where the shape has passed, the length that was asked for is that of the film's file
-  pub save_fits : writer_check f (film_fits f && eqb (length out) (coefficient_length f.rows f.columns)) ≡ coefficient_save_check f out
+  save_fits : writer_check f (film_fits f && eqb (length out) (coefficient_length f.rows f.columns)) ≡ coefficient_save_check f out
   unfolding writer_check
   save_fits =
       or_else_given (shape_check f.rows rows_offset f.columns columns_offset)
       (λ e.
       let s = shape_passes f.rows f.columns rows_offset columns_offset e in
       rw (length_known f.rows f.columns s.rows_low s.columns_low))
+
+  pub save_tested : {n : ℕ} {c : Check} → n ≡ coefficient_length f.rows f.columns → c ≡ writer_check f (film_fits f && eqb (length out) n) → c ≡ coefficient_save_check f out
+  save_tested e w = w ∙ ap (λ (k : ℕ). writer_check f (film_fits f && eqb (length out) k)) e ∙ save_fits
 
   pub save_ready : coefficient_save_check f out ≡ pass → Writable f out
   unfolding writer_check

@@ -2,17 +2,18 @@
 use mathlib.Core.Path.{◌≡◌, sym, ap, ◌∙◌, subst}
 use mathlib.Core.Bool.{true, false}
 use mathlib.Core.List.{List, []}
+use Rattle.std.specs.Prelude.{Result, Ok, Err}
 use Prim.Native.Nat.{ℕ, ◌+◌, ◌*◌, ◌≤◌}
 use native.Mathlib.Omega.{arith}
 use lib.IntN.{ℤ}
 use lib.ListN.{length, take}
-use lib.Seq.{sets}
+use lib.Seq.{sets, length-take-le}
 use Rattle.model.specs.declared.Head.{Head}
-use Rattle.model.specs.declared.Tested.{Tested}
+use Rattle.model.specs.declared.Refusal.{Refusal}
 use Rattle.model.specs.Lists.{tabulate}
 use Rattle.model.specs.Refusals.{Check, pass, fail, check_of, ◌or_else◌}
-use Rattle.model.specs.Film.{Film, film_of, size_of, weighted, beside, across, neighbours}
-use Rattle.model.specs.Checks.{bad_coefficient, not_dominant, coefficient_check, dominance_check}
+use Rattle.model.specs.Film.{Film, film_of, size_of, weighted}
+use Rattle.model.specs.Checks.{bad_coefficient, coefficient_check, dominance_check}
 use Rattle.model.specs.Accepted.{Sized, Limited}
 use Rattle.model.specs.Weighing.{weight_search, weights_for, held_check}
 use Rattle.model.specs.Bytes.{word_at}
@@ -28,7 +29,6 @@ use Rattle.model.proofs.Weighing.{ones}
 use Rattle.model.proofs.CoefficientFile.{sized_in, limited_in}
 use Rattle.model.proofs.Sides.{cells_low}
 use Rattle.text.proofs.Writes.{sets_front}
-use Rattle.refusals.specs.Parts.{unweighted, sourceless}
 use Rattle.weighing.specs.Searches.{Searchable, Searches}
 use Rattle.coefficient_reading.specs.Reading.{Buffers, Decoded, Stands, rest_check, Weighs}
 
@@ -48,6 +48,17 @@ fields_whole l e =
     let s = shape_passes _ _ _ _ p.1 in
     let few = cells_low _ _ s.rows_low s.columns_low in
     record { passes = p; few = few; has = omega (arith, few, carried_low l (cells_in l)); long = omega (arith, passes_end fields l 0 p (omega arith)) }
+
+-- as many numbers of each list as a table has room for
+module _ (l : List ℕ) {h : Head} {n : ℕ} (e : fields_check (coefficient_fields_in l) l ≡ pass) (head : h ≡ film_head (coefficients_in l)) (cells : n ≡ h.rows * h.columns) where
+  pub few_numbers : n ≤ 1024
+  few_numbers = omega (arith, cells, ap (λ (x : Head). x.rows * x.columns) head, (fields_whole l e).few)
+
+  pub room_in : {A : Type 0} (table : List A) → length table ≡ 1024 → n ≤ length table
+  room_in table k = omega (arith, few_numbers)
+
+  pub part_in : {A : Type 0} (table : List A) → length table ≡ 1024 → n ≡ length (take n table)
+  part_in table k = sym (length-take-le n table (room_in table k))
 
 -- the lists at the starts of tables, with the head that stands in the file, stand there
 pub stands : (l : List ℕ) {h : Head} {from n : ℕ} {d r u : List ℕ} {s : List ℤ} → fields_check (coefficient_fields_in l) l ≡ pass → h ≡ film_head (coefficients_in l) → n ≡ cells_in l
@@ -88,10 +99,14 @@ module _ (l : List ℕ) {h : Head} {d r u : List ℕ} {s : List ℤ} (S : Stands
   pub sized : (weights : List ℕ) → length weights ≡ h.rows * h.columns → Sized (film_of h weights d r u s)
   sized weights e = rw (with weights) (sized_in l (carried_in l) weights (e ∙ cells_are) (fields_whole l S.fields).passes)
 
-  -- 14
-  pub coefficients_tested : {c : Check} → c ≡ coefficient_check (unweighted h d r u s) → c ≡ coefficient_check (coefficients_in l)
+  -- 14, which does not look at weights
+  coefficients_tested : (weights : List ℕ) {c : Check} → c ≡ coefficient_check (film_of h weights d r u s) → c ≡ coefficient_check (coefficients_in l)
   unfolding coefficient_check bad_coefficient
-  coefficients_tested e = e ∙ ap coefficient_check S.same
+  coefficients_tested weights e = e ∙ ap coefficient_check S.same
+
+  pub fine : (weights : List ℕ) {x : Result (Unit {0}) Refusal} → x ≡ Ok tt → check_of x ≡ coefficient_check (film_of h weights d r u s)
+      → coefficient_check (coefficients_in l) ≡ pass
+  fine weights e found = sym (coefficients_tested weights found) ∙ ap check_of e
 
   pub limited : coefficient_check (coefficients_in l) ≡ pass → (weights : List ℕ) → length weights ≡ h.rows * h.columns → Limited (film_of h weights d r u s)
   limited p weights e = rw (with weights) (limited_in l (carried_in l) weights (e ∙ cells_are) (fields_whole l S.fields).passes p)
@@ -105,9 +120,9 @@ module _ (l : List ℕ) {h : Head} {d r u : List ℕ} {s : List ℤ} (S : Stands
     next e = e ∙ ap (λ c. c or_else held_check (weightless l) (coefficients_in l)) (sym p)
 
     -- weights that are found
-    pub weighs_found : {x : Tested} {exit : List ℕ} → weightless l ≡ true → Searches (film_of h [] d r u []) x exit → Weighs l x exit
+    pub weighs_found : (x : Result (Unit {0}) Refusal) {exit : List ℕ} → weightless l ≡ true → Searches (film_of h [] d r u []) x exit → Weighs l x exit
     unfolding weight_search
-    weighs_found {x} {exit} c F =
+    weighs_found x {exit} c F =
         let T = subst (λ (f : Film). Searches f x exit) S.same (record { finds = F.finds; weights_are = F.weights_are }) in
         record {
           finds = next (T.finds ∙ ap (λ none. held_check none (coefficients_in l)) (sym c));
@@ -115,10 +130,9 @@ module _ (l : List ℕ) {h : Head} {d r u : List ℕ} {s : List ℤ} (S : Stands
         }
 
     -- weights that stand in the file
-    pub weighs_standing : {x : Tested} {exit : List ℕ} → weightless l ≡ false → exit ≡ tabulate (cells_in l) (λ i. word_at l (weights_offset + 2 * i))
-        → check_of x ≡ dominance_check (sourceless h exit d r u) → Weighs l x exit
-    unfolding dominance_check not_dominant neighbours beside across
-    weighs_standing {x} {exit} c e T =
+    pub weighs_standing : (x : Result (Unit {0}) Refusal) {exit : List ℕ} → weightless l ≡ false → exit ≡ tabulate (cells_in l) (λ i. word_at l (weights_offset + 2 * i))
+        → check_of x ≡ dominance_check (film_of h exit d r u s) → Weighs l x exit
+    weighs_standing x {exit} c e T =
         let weights : exit ≡ (coefficients_in l).weights = e ∙ ap (λ (n : ℕ). tabulate n (λ i. word_at l (weights_offset + 2 * i))) (sym (carries_all l c)) in
         let same : film_of h exit d r u s ≡ coefficients_in l = with exit ∙ ap (weighted (coefficients_in l)) weights in
         record {
@@ -127,12 +141,11 @@ module _ (l : List ℕ) {h : Head} {d r u : List ℕ} {s : List ℤ} (S : Stands
         }
 
   -- 14 refuses
-  pub weighs_refused : {x : Tested} {exit : List ℕ} {number place : ℕ} → coefficient_check (coefficients_in l) ≡ fail number place → check_of x ≡ fail number place → Weighs l x exit
-  weighs_refused f e =
-      record {
-        finds = e ∙ ap (λ c. c or_else held_check (weightless l) (coefficients_in l)) (sym f);
-        weights_are = λ q. refused_passes (sym e ∙ q);
-      }
+  pub weighs_refused : (weights : List ℕ) {exit : List ℕ} {x : Result (Unit {0}) Refusal} {q : Refusal} → x ≡ Err q → check_of x ≡ coefficient_check (film_of h weights d r u s)
+      → Weighs l (Err q) exit
+  weighs_refused weights e found =
+      let fails : coefficient_check (coefficients_in l) ≡ fail _ _ = sym (coefficients_tested weights found) ∙ ap check_of e in
+      record { finds = ap (λ c. c or_else held_check (weightless l) (coefficients_in l)) (sym fails); weights_are = λ p. refused_passes p }
 
 -- ---- what the reader gives of a film, by what its tests find
 
@@ -141,19 +154,19 @@ module _ (f : Film) (S : Sized f) (weights diagonals rights ups : List ℕ) (sou
   few = cells_low _ _ S.rows_low S.columns_low
 
   -- the buffers have room
-  pub weights_room : length f.weights ≤ length weights
+  weights_room : length f.weights ≤ length weights
   weights_room = omega (arith, few, S.weights_len, B.weights_len)
 
-  pub diagonals_room : length f.diagonals ≤ length diagonals
+  diagonals_room : length f.diagonals ≤ length diagonals
   diagonals_room = omega (arith, few, S.diagonals_len, B.diagonals_len)
 
-  pub rights_room : length f.rights ≤ length rights
+  rights_room : length f.rights ≤ length rights
   rights_room = omega (arith, few, S.rights_len, B.rights_len)
 
-  pub ups_room : length f.ups ≤ length ups
+  ups_room : length f.ups ≤ length ups
   ups_room = omega (arith, few, S.ups_len, B.ups_len)
 
-  pub sources_room : length f.sources ≤ length sources
+  sources_room : length f.sources ≤ length sources
   sources_room = omega (arith, few, S.sources_len, B.sources_len)
 
   pub film_loaded : {c : Check} {weights' diagonals' rights' ups' : List ℕ} {sources' : List ℤ} → c ≡ pass
@@ -171,9 +184,9 @@ module _ (f : Film) (S : Sized f) (weights diagonals rights ups : List ℕ) (sou
       }
 
 -- the film that stands there, with its weights
-pub whole_film : (l : List ℕ) {h : Head} {d r u : List ℕ} {s : List ℤ} {exit : List ℕ} {x : Tested} → Stands l h d r u s → Weighs l x exit → check_of x ≡ pass
+pub whole_film : (l : List ℕ) {h : Head} {d r u : List ℕ} {s : List ℤ} {exit : List ℕ} {x : Result (Unit {0}) Refusal} → Stands l h d r u s → Weighs l x exit → x ≡ Ok tt
     → film_of h exit d r u s ≡ film_in l
-whole_film l {exit = exit} S W e = with l S exit ∙ ap (weighted (coefficients_in l)) (W.weights_are e)
+whole_film l {exit = exit} S W e = with l S exit ∙ ap (weighted (coefficients_in l)) (W.weights_are (ap check_of e))
 
 pub film_refused : {c : Check} {f : Film} {weights diagonals rights ups : List ℕ} {sources : List ℤ} {number place : ℕ} → c ≡ fail number place
     → LoadsFilm c f weights diagonals rights ups sources (refused number place) weights diagonals rights ups sources

@@ -1,5 +1,5 @@
 -- A reader's five buffers, what is decoded into the starts of tables, and what the tests of a film that stands in a file give.
-use Rattle.std.specs.Prelude.{◌≡◌, List, ℕ, ◌+◌, ◌*◌, ℤ, length, take}
+use Rattle.std.specs.Prelude.{◌≡◌, List, ℕ, ◌+◌, ◌*◌, ℤ, length, take, Result}
 use Rattle.model.specs.Refusals.{Check, pass, ◌or_else◌, check_of}
 use Rattle.model.specs.Film.{film_of}
 use Rattle.model.specs.Checks.{coefficient_check}
@@ -7,7 +7,7 @@ use Rattle.model.specs.Weighing.{held_check}
 use Rattle.model.specs.File.{weightless, fields_check}
 use Rattle.model.specs.CoefficientFile.{longs_at, signed_quads_at, coefficients_in, film_in, coefficient_fields_in}
 use Rattle.model.specs.declared.Head.{Head}
-use Rattle.model.specs.declared.Tested.{Tested}
+use Rattle.model.specs.declared.Refusal.{Refusal}
 
 pub record Buffers (weights diagonals rights ups : List ℕ) (sources : List ℤ) : Type 0 where
   pub weights_len : length weights ≡ 1024
@@ -33,6 +33,6 @@ abbrev pub rest_check : List ℕ → Check
 rest_check bytes = coefficient_check (coefficients_in bytes) or_else held_check (weightless bytes) (coefficients_in bytes)
 
 -- what they find and, where they pass, the film's weights
-pub record Weighs (bytes : List ℕ) (r : Tested) (exit : List ℕ) : Type 0 where
+pub record Weighs (bytes : List ℕ) (r : Result (Unit {0}) Refusal) (exit : List ℕ) : Type 0 where
   pub finds : check_of r ≡ rest_check bytes
   pub weights_are : check_of r ≡ pass → exit ≡ (film_in bytes).weights

@@ -1,31 +1,35 @@
 -- The report of a file, from what the coefficient reader answered.
 use mathlib.Core.Path.{◌≡◌, ap}
-use mathlib.Core.Bool.{true}
 use mathlib.Core.List.{List}
-use Prim.Native.Nat.{ℕ}
+use Prim.Native.Nat.{ℕ, ◌≤◌}
 use lib.IntN.{ℤ}
-use Rattle.model.specs.Film.{Film}
+use lib.ListN.{take}
+use Rattle.model.specs.Film.{Film, film_of}
+use Rattle.model.specs.File.{cells}
 use Rattle.model.specs.Accepted.{Accepted}
-use Rattle.model.specs.Result.{answered, refused}
+use Rattle.model.specs.Result.{answered}
 use Rattle.model.specs.CoefficientFile.{read_coefficients}
-use Rattle.model.specs.CoefficientCalls.{buffers_fit, LoadsCoefficients, used_film}
-use Rattle.model.specs.Report.{refused_line, film_report, report_by}
+use Rattle.model.specs.CoefficientCalls.{LoadsCoefficients, used_film}
+use Rattle.model.specs.Report.{film_report, report_by}
 use Rattle.model.specs.declared.Head.{Head}
+use Rattle.grid.proofs.Limited.{size_low}
 use Rattle.model.proofs.CoefficientFile.{coefficients_accepted}
-use Rattle.model.proofs.CoefficientInverse.{read_coefficients_lem, coefficients_refusal}
+use Rattle.model.proofs.CoefficientInverse.{read_coefficients_lem}
 
--- of the film that it has read, ..
+-- It is of the film that was read, whose numbers the buffers hold.
 pub record Read (bytes : List ℕ) (f : Film) : Type 0 where
   pub accepted : Accepted f
   pub text : report_by (read_coefficients bytes) ≡ film_report f
 
-module _ (bytes : List ℕ) {w d r u w' d' r' u' : List ℕ} {s s' : List ℤ} where
-  pub read_report : {h : Head} → LoadsCoefficients bytes w d r u s (answered h) w' d' r' u' s' → Read bytes (used_film h w' d' r' u' s')
-  read_report {h} L =
+module _ (bytes : List ℕ) {w d r u w' d' r' u' : List ℕ} {s s' : List ℤ} {h : Head}
+    (L : LoadsCoefficients bytes w d r u s (answered h) w' d' r' u' s') where
+  read_used : Read bytes (used_film h w' d' r' u' s')
+  read_used =
       let reads = read_coefficients_lem bytes w d r u s h L in
       record { accepted = coefficients_accepted bytes (used_film h w' d' r' u' s') reads; text = ap report_by reads }
 
-  -- .. or of its refusal
-  pub refusal_report : {number place : ℕ} → buffers_fit w d r u s ≡ true → LoadsCoefficients bytes w d r u s (refused number place) w' d' r' u' s'
-      → report_by (read_coefficients bytes) ≡ refused_line number place
-  refusal_report {number} {place} e L = ap report_by (coefficients_refusal bytes w d r u s number place e L)
+  pub read_report : {n : ℕ} → n ≡ cells h.rows h.columns → Read bytes (film_of h (take n w') (take n d') (take n r') (take n u') (take n s'))
+  read_report e = rw e read_used
+
+  pub read_few : {n : ℕ} → n ≡ cells h.rows h.columns → n ≤ 1024
+  read_few e = rw e (size_low read_used.accepted.limited.sized)

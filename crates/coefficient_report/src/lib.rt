@@ -8,7 +8,7 @@ ghost use Rattle.model.specs.CoefficientFile.{read_coefficients};
 ghost use Rattle.model.specs.Report.{report_by};
 ghost use Rattle.text.specs.Writes.{Fits, Writes};
 
-use model::LoadedCoefficients;
+use model::Film;
 
 // The report of a file.
 pub fn put_coefficients(file: &[u8], out: &mut [u8]) -> usize
@@ -29,19 +29,18 @@ pub fn put_coefficients(file: &[u8], out: &mut [u8]) -> usize
         &mut ups,
         &mut sources,
     ) {
-        LoadedCoefficients::Film(head) => {
+        Ok(head) => {
             let n = shape::area(head.rows, head.columns);
-            film_text::put_run(
+            let film = Film {
                 head,
-                &weights[..n],
-                &diagonals[..n],
-                &rights[..n],
-                &ups[..n],
-                &sources[..n],
-                &mut field[..n],
-                out,
-            )
+                weights: &weights[..n],
+                diagonals: &diagonals[..n],
+                rights: &rights[..n],
+                ups: &ups[..n],
+                sources: &sources[..n],
+            };
+            film_text::put_run(&film, &mut field[..n], out)
         }
-        LoadedCoefficients::Refused(r) => render::put_refused(r, out, 0),
+        Err(r) => render::put_refused(r, out, 0),
     }
 }

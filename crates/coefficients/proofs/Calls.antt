@@ -1,7 +1,7 @@
 -- The call that forms coefficients, by what its tests find.
 use mathlib.Core.Path.{◌≡◌, sym, ap, ◌∙◌}
 use mathlib.Core.Bool.{Bool, ◌&&◌, and_assoc}
-use mathlib.Core.List.{List, []}
+use mathlib.Core.List.{List}
 use Prim.Native.Nat.{ℕ}
 use native.Mathlib.Omega.{arith}
 use borrow.Author.Tests.{eqb-true}
@@ -13,9 +13,7 @@ use Rattle.model.specs.Gauge.{Gauge, factors_of, Stepped}
 use Rattle.model.specs.Refusals.{Check, pass, fail}
 use Rattle.model.specs.File.{cells, gauge_check}
 use Rattle.model.specs.Result.{answered, refused}
-use Rattle.model.specs.FileCalls.{gauge_of, gauge_fits, form_check, Forms}
-use Rattle.model.specs.declared.Head.{Head}
-use Rattle.model.specs.declared.Steps.{Steps}
+use Rattle.model.specs.FileCalls.{gauge_fits, form_check, Forms}
 use Rattle.model.proofs.Checks.{and_parts}
 use Rattle.forming.specs.Cell.{Ringed, Room, Forming}
 use Rattle.gauge.proofs.Tests.{measured_ringed, gauge_measured}
@@ -31,10 +29,7 @@ pub record Unchanged (diagonals rights ups : List ℕ) (sources : List ℤ) (dia
   pub ups_kept : length ups' ≡ length ups
   pub sources_kept : length sources' ≡ length sources
 
-module _ (h : Head) (weights thicknesses : List ℕ) (wedge : ℤ) (steps : Steps) (diagonals rights ups : List ℕ) (sources : List ℤ) where
-  abbrev pub g : Gauge
-  g = gauge_of h weights thicknesses wedge steps
-
+module _ (g : Gauge) (diagonals rights ups : List ℕ) (sources : List ℤ) where
   -- each of the four slices has n places
   abbrev pub four_have : ℕ → Bool
   four_have n = eqb (length diagonals) n && eqb (length rights) n && eqb (length ups) n && eqb (length sources) n
@@ -42,11 +37,13 @@ module _ (h : Head) (weights thicknesses : List ℕ) (wedge : ℤ) (steps : Step
   abbrev pub four_fit : Bool
   four_fit = four_have (cells g.rows g.columns)
 
-  -- the tests, from what they found of the numbers as the code has them
-  pub form_tested : {r : Check} {n : ℕ} {w : ℤ} → n ≡ cells g.rows g.columns → w ≡ wedge
-      → r ≡ gauge_check (gauge_of h weights thicknesses w steps) (gauge_fits (gauge_of h weights thicknesses w steps) && four_have n)
+  -- the tests, by the number of places that was asked for with the shape as the code has it
+  pub form_tested : {f : Gauge} {n : ℕ} {r : Check} → f ≡ g → n ≡ cells f.rows f.columns → r ≡ gauge_check g (gauge_fits g && four_have n)
       → r ≡ form_check g diagonals rights ups sources
-  form_tested n w e = (rw (n, w) at e) ∙ ap (gauge_check g) (simp and_assoc)
+  form_tested v n e =
+      e
+      ∙ ap (λ (k : ℕ). gauge_check g (gauge_fits g && four_have k)) (n ∙ ap (λ (x : Gauge). cells x.rows x.columns) v)
+      ∙ ap (gauge_check g) (simp and_assoc)
 
   record Lengths : Type 0 where
     diagonals_len : length diagonals ≡ cells g.rows g.columns
@@ -71,7 +68,7 @@ module _ (h : Head) (weights thicknesses : List ℕ) (wedge : ℤ) (steps : Step
         }
 
     -- what forming asks
-    pub form_ready : (Ringed g.rows g.columns g.thicknesses × Stepped (factors_of steps)) × Room (cells g.rows g.columns) diagonals rights ups sources
+    pub form_ready : (Ringed g × Stepped (factors_of g.steps)) × Room (cells g.rows g.columns) diagonals rights ups sources
     form_ready =
         let l = lengths in
         let m = gauge_measured g four_fit tests in (
@@ -85,7 +82,7 @@ module _ (h : Head) (weights thicknesses : List ℕ) (wedge : ℤ) (steps : Step
         )
 
     -- all is written, ..
-    pub form_written : {diagonals' rights' ups' : List ℕ} {sources' : List ℤ} → Forming (gauge_of h [] thicknesses wedge steps) diagonals' rights' ups' sources'
+    pub form_written : {diagonals' rights' ups' : List ℕ} {sources' : List ℤ} → Forming g diagonals' rights' ups' sources'
         → Unchanged diagonals rights ups sources diagonals' rights' ups' sources'
         → Forms g diagonals rights ups sources (answered tt) diagonals' rights' ups' sources'
     form_written {diagonals'} {rights'} {ups'} {sources'} b k =

@@ -4,42 +4,26 @@
 // Proved: the whole answer, and the four slices, are those of crate `model` (Forms).
 #![tactic(auto)]
 
-ghost use Rattle.model.specs.FileCalls.{gauge_of, form_answer_of, Forms};
+ghost use Rattle.model.specs.Result.{answer_of};
+ghost use Rattle.model.specs.FileCalls.{Forms};
 
-use model::{Formed, Head, Steps, Tested};
+use model::{Gauged, Refusal};
 
 pub fn form(
-    head: Head,
-    weights: &[u16],
-    thicknesses: &[u8],
-    wedge: i32,
-    steps: Steps,
+    film: &Gauged,
     diagonals: &mut [u32],
     rights: &mut [u32],
     ups: &mut [u32],
     sources: &mut [i64],
-) -> Formed
-    ensures { Forms (gauge_of head weights.now thicknesses.now wedge steps) diagonals.old rights.old ups.old sources.old (form_answer_of result) diagonals.new rights.new ups.new sources.new }
+) -> Result<(), Refusal>
+    ensures { Forms film.now diagonals.old rights.old ups.old sources.old (answer_of result) diagonals.new rights.new ups.new sources.new }
 {
-    let n = shape::area(head.rows, head.columns);
+    let n = shape::area(film.head.rows, film.head.columns);
     let fits = (diagonals.len() == n)
         & (rights.len() == n)
         & (ups.len() == n)
         & (sources.len() == n);
-    match gauge::gauge_tests(head, weights, thicknesses, wedge, steps, fits) {
-        Tested::Fine => {
-            forming::form(
-                head,
-                thicknesses,
-                wedge,
-                steps,
-                diagonals,
-                rights,
-                ups,
-                sources,
-            );
-            Formed::Written
-        }
-        Tested::Refused(r) => Formed::Refused(r),
-    }
+    gauge::gauge_tests(film, fits)?;
+    forming::form(film, diagonals, rights, ups, sources);
+    Ok(())
 }

@@ -1,3 +1,3 @@
 -- Laws that the proofs of the functions, and other crates, share.
-pub mod Chain
+pub mod Cells
 pub mod Forward

@@ -7,59 +7,26 @@
 
 ghost use Rattle.std.specs.Prelude.{◌≡◌, ◌+◌, ◌≤◌, length};
 ghost use Rattle.monotone.specs.Rule.{Bounded};
-ghost use Rattle.model.specs.Lists.{tabulate};
-ghost use Rattle.model.specs.Film.{film_of, rule};
+ghost use Rattle.model.specs.Film.{size_of, rule};
 ghost use Rattle.model.specs.Accepted.{Accepted};
 ghost use Rattle.model.specs.Margin.{margin as margin_of};
 ghost use Rattle.model.specs.Estimate.{estimate as estimate_of};
 
-use model::Head;
+use chain::Elimination;
+use model::Film;
 
-// What a broken line proposes.
-fn zeros(proposal: &mut [u32])
-    ensures { proposal.new ≡ tabulate (length proposal.old) (λ j. 0) }
+// The program's own proposal for the row that begins at `start`; a broken line proposes zeros.
+pub fn estimate(film: &Film, field: &[u32], start: usize, margin: u32, proposal: &mut [u32])
+    requires accepted { Accepted film.now }
+    requires bounded { Bounded (rule film.now) field.now }
+    requires margin { margin ≡ margin_of film.now }
+    requires row { (start + film.now.columns ≤ size_of film.now) × (length proposal.old ≡ film.now.columns) }
+    ensures { proposal.new ≡ estimate_of film.now field.now start }
 {
-    let mut j = 0;
-    while j < proposal.len() {
-        proposal[j] = 0;
-        j += 1;
-    }
-}
-
-// The program's own proposal for the row that begins at `start`.
-pub fn estimate(
-    head: Head,
-    weights: &[u16],
-    diagonals: &[u32],
-    rights: &[u32],
-    ups: &[u32],
-    sources: &[i64],
-    field: &[u32],
-    start: usize,
-    margin: u32,
-    proposal: &mut [u32],
-)
-    requires accepted { Accepted (film_of head weights.now diagonals.now rights.now ups.now sources.now) }
-    requires bounded { Bounded (rule (film_of head weights.now diagonals.now rights.now ups.now sources.now)) field.now }
-    requires margin_value { margin ≡ margin_of (film_of head weights.now diagonals.now rights.now ups.now sources.now) }
-    requires columns_in_bounds { (start + head.columns ≤ length field.now) × (length proposal.old ≡ head.columns) }
-    ensures { proposal.new ≡ estimate_of (film_of head weights.now diagonals.now rights.now ups.now sources.now) field.now start }
-{
-    let mut pivots = [0.0; 32];
-    let mut sides = [0.0; 32];
-    if elimination::eliminate_line(
-        head,
-        diagonals,
-        rights,
-        ups,
-        sources,
-        field,
-        start,
-        &mut pivots,
-        &mut sides,
-    ) {
-        zeros(proposal);
+    let mut steps = [Elimination::Idle; 32];
+    if elimination::eliminate_line(film, field, start, &mut steps) {
+        proposal.fill(0);
     } else {
-        substitution::substitute_line(weights, rights, &pivots, &sides, start, margin, proposal);
+        substitution::substitute_line(film, &steps, start, margin, proposal);
     }
 }

@@ -1,17 +1,14 @@
 -- The field that a tag names, in a file of either kind of film, with n cells and t thicknesses, and as many weights as it has; and how far a walk over such fields may come.
-use Rattle.std.specs.Prelude.{◌≡◌, cond, List, ℕ, ◌≤◌, eqb}
+use Rattle.std.specs.Prelude.{◌≡◌, cond, List, ℕ, ◌≤◌, eqb, Result, Ok}
 use Rattle.model.specs.Refusals.{Check, pass, ◌or_else◌, check_of}
 use Rattle.model.specs.Fields.{Field, body, behind, field_at}
 use Rattle.model.specs.File.{shape_field, ceiling_field, weights_field, thicknesses_field, wedge_field, steps_field, carried}
 use Rattle.model.specs.CoefficientFile.{diagonals_field, rights_field, ups_field, sources_field}
-use Rattle.fields.specs.declared.Walked.{Walked}
+use Rattle.model.specs.declared.Refusal.{Refusal}
 
--- a field of so many bytes whose values are not tested where they stand; and what a tag that no field has stands for
-abbrev pub plain_field : ℕ → Field
-plain_field size = record { tag = 0; size = size; check = λ bytes at. pass }
-
+-- what a tag that no field has stands for
 abbrev pub unknown : Field
-unknown = plain_field 0
+unknown = record { tag = 0; size = 0; check = λ bytes at. pass }
 
 abbrev pub field_for : List ℕ → ℕ → ℕ → ℕ → Field
 field_for bytes tag n t =
@@ -29,9 +26,9 @@ abbrev pub test_of : Field → ℕ → List ℕ → ℕ → Check
 test_of f tag bytes at = field_at bytes at tag f.size or_else f.check bytes (body at)
 
 -- what its test gives: what it finds and, where it passes, the offset behind the field
-pub record Tries (f : Field) (tag : ℕ) (bytes : List ℕ) (at : ℕ) (w : Walked) : Type 0 where
-  pub finds : check_of w.tested ≡ test_of f tag bytes at
-  pub goes_on : check_of w.tested ≡ pass → w.next ≡ behind at f.size
+pub record Tries (f : Field) (tag : ℕ) (bytes : List ℕ) (at : ℕ) (r : Result ℕ Refusal) : Type 0 where
+  pub finds : check_of r ≡ test_of f tag bytes at
+  pub goes_on : (next : ℕ) → r ≡ Ok next → next ≡ behind at f.size
 
 -- Sides of up to 255 stand in a file before they are tested, and so the offsets behind its fields are small numbers all the same.
 pub record Room (at n t : ℕ) : Type 0 where

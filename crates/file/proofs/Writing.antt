@@ -1,12 +1,12 @@
 -- The writer by what its tests find.
-use mathlib.Core.Path.{◌≡◌, ◌∙◌}
+use mathlib.Core.Path.{◌≡◌, ap, ◌∙◌}
 use mathlib.Core.Bool.{not, ◌&&◌}
 use mathlib.Core.List.{List}
 use Prim.Native.Nat.{ℕ}
 use borrow.Author.Tests.{eqb-true, not-false}
 use lib.Dec.{eqb}
 use lib.ListN.{length}
-use Rattle.model.specs.Refusals.{pass, fail, ◌or_else◌, fail_if}
+use Rattle.model.specs.Refusals.{Check, pass, fail, fail_if}
 use Rattle.model.specs.Gauge.{Gauge}
 use Rattle.model.specs.Checks.{shape_check}
 use Rattle.model.specs.Result.{answered, refused, Gives}
@@ -21,11 +21,14 @@ use Rattle.gauge.proofs.Tests.{gauge_measured}
 
 module _ (g : Gauge) (out : List ℕ) where
   -- where the shape has passed, the length that was asked for is that of the film's file
-  pub save_fits : gauge_check g (gauge_fits g && eqb (length out) (file_length g.rows g.columns g.steps)) ≡ save_check g out
+  save_fits : gauge_check g (gauge_fits g && eqb (length out) (file_length g.rows g.columns g.steps)) ≡ save_check g out
   unfolding gauge_check
   save_fits =
       or_else_given (shape_check g.rows rows_offset g.columns columns_offset)
       (λ e. let s = gauge_shape g e in rw (length_known g s.rows_low s.columns_low))
+
+  pub save_tested : {n : ℕ} {c : Check} → n ≡ file_length g.rows g.columns g.steps → c ≡ gauge_check g (gauge_fits g && eqb (length out) n) → c ≡ save_check g out
+  save_tested e f = f ∙ ap (λ (k : ℕ). gauge_check g (gauge_fits g && eqb (length out) k)) e ∙ save_fits
 
   pub save_ready : save_check g out ≡ pass → Writable g out
   unfolding gauge_check

@@ -6,6 +6,8 @@ ghost use Rattle.told.specs.Refused.{Told};
 ghost use Rattle.tell_files.specs.Files.{ReportTold};
 ghost use Rattle.archive.specs.Lent.{lent_head, lent_steps, Leaves, ReadTold};
 
+use model::Gauged;
+
 // Writes a file's report at the start of out, and tells its length.
 #[unsafe(no_mangle)]
 pub extern "C" fn film_report(
@@ -16,8 +18,7 @@ pub extern "C" fn film_report(
 ) -> u32
     ensures { Leaves (report_call file.now out.old) (λ a. ReportTold a length.old place.old result length.new place.new) out.new }
 {
-    let answer = report::report(file, out);
-    tell_files::report(answer, length, place)
+    tell_files::report(report::report(file, out), length, place)
 }
 
 // Reads a film file, its head, its wedge and its grid steps.
@@ -33,8 +34,13 @@ pub extern "C" fn film_read(
 ) -> u32
     ensures { ReadTold file.now weights.old thicknesses.old head.old wedge.old steps.old place.old result weights.new thicknesses.new head.new wedge.new steps.new place.new }
 {
-    let answer = file::read(file, weights, thicknesses);
-    tell_files::read(answer, head, wedge, steps, place)
+    tell_files::read(
+        file::read(file, weights, thicknesses),
+        head,
+        wedge,
+        steps,
+        place,
+    )
 }
 
 // Writes a film's file.
@@ -50,8 +56,12 @@ pub extern "C" fn film_write(
 ) -> u32
     ensures { Leaves (save_call (gauge_of (lent_head head.now) weights.now thicknesses.now wedge (lent_steps steps.now)) out.old) (λ a. Told (refusal_in a) place.old result place.new) out.new }
 {
-    let head = archive::head_of(head);
-    let steps = archive::steps_of(steps);
-    let answer = file::write(head, weights, thicknesses, wedge, steps, out);
-    tell_files::write(answer, place)
+    let film = Gauged {
+        head: archive::head_of(head),
+        weights,
+        thicknesses,
+        wedge,
+        steps: archive::steps_of(steps),
+    };
+    told::answer(file::write(&film, out), place)
 }

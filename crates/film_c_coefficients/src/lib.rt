@@ -14,6 +14,8 @@ ghost use Rattle.model.specs.CoefficientCalls.{coefficient_save_call, convert_ca
 ghost use Rattle.told.specs.Refused.{Told};
 ghost use Rattle.archive.specs.Lent.{lent_head, lent_steps, Leaves, CoefficientsTold};
 
+use model::{Film, Gauged};
+
 // Reads a coefficient film file, and its head.
 #[unsafe(no_mangle)]
 pub extern "C" fn film_read_coefficients(
@@ -28,8 +30,11 @@ pub extern "C" fn film_read_coefficients(
 ) -> u32
     ensures { CoefficientsTold file.now weights.old diagonals.old rights.old ups.old sources.old head.old place.old result weights.new diagonals.new rights.new ups.new sources.new head.new place.new }
 {
-    let answer = coefficient_file::read(file, weights, diagonals, rights, ups, sources);
-    tell_files::read_coefficients(answer, head, place)
+    tell_files::read_coefficients(
+        coefficient_file::read(file, weights, diagonals, rights, ups, sources),
+        head,
+        place,
+    )
 }
 
 // Writes a coefficient film's file.
@@ -46,9 +51,15 @@ pub extern "C" fn film_write_coefficients(
 ) -> u32
     ensures { Leaves (coefficient_save_call (film_of (lent_head head.now) weights.now diagonals.now rights.now ups.now sources.now) out.old) (λ a. Told (refusal_in a) place.old result place.new) out.new }
 {
-    let head = archive::head_of(head);
-    let answer = coefficient_file::write(head, weights, diagonals, rights, ups, sources, out);
-    tell_files::write(answer, place)
+    let film = Film {
+        head: archive::head_of(head),
+        weights,
+        diagonals,
+        rights,
+        ups,
+        sources,
+    };
+    told::answer(coefficient_file::write(&film, out), place)
 }
 
 // Writes the coefficient film's file of a gauged film.
@@ -64,8 +75,12 @@ pub extern "C" fn film_convert(
 ) -> u32
     ensures { Leaves (convert_call (gauge_of (lent_head head.now) weights.now thicknesses.now wedge (lent_steps steps.now)) out.old) (λ a. Told (refusal_in a) place.old result place.new) out.new }
 {
-    let head = archive::head_of(head);
-    let steps = archive::steps_of(steps);
-    let answer = conversion::convert(head, weights, thicknesses, wedge, steps, out);
-    tell_files::write(answer, place)
+    let film = Gauged {
+        head: archive::head_of(head),
+        weights,
+        thicknesses,
+        wedge,
+        steps: archive::steps_of(steps),
+    };
+    told::answer(conversion::convert(&film, out), place)
 }

@@ -9,6 +9,8 @@
 ghost use Rattle.model.specs.FileCalls.{gauge_of};
 ghost use Rattle.archive.specs.Lent.{lent_head, lent_steps, FormTold};
 
+use model::Gauged;
+
 // Forms the coefficients of a film.
 #[unsafe(no_mangle)]
 pub extern "C" fn film_form(
@@ -25,18 +27,15 @@ pub extern "C" fn film_form(
 ) -> u32
     ensures { FormTold (gauge_of (lent_head head.now) weights.now thicknesses.now wedge (lent_steps steps.now)) diagonals.old rights.old ups.old sources.old place.old result diagonals.new rights.new ups.new sources.new place.new }
 {
-    let head = archive::head_of(head);
-    let steps = archive::steps_of(steps);
-    let answer = coefficients::form(
-        head,
+    let film = Gauged {
+        head: archive::head_of(head),
         weights,
         thicknesses,
         wedge,
-        steps,
-        diagonals,
-        rights,
-        ups,
-        sources,
-    );
-    tell_files::form(answer, place)
+        steps: archive::steps_of(steps),
+    };
+    told::answer(
+        coefficients::form(&film, diagonals, rights, ups, sources),
+        place,
+    )
 }

@@ -15,6 +15,8 @@ ghost use Rattle.told.specs.Refused.{Told};
 ghost use Rattle.tell.specs.Numbers.{SlackTold, MarginTold, RelaxTold, ProposeTold};
 ghost use Rattle.archive.specs.Lent.{lent_head, Leaves};
 
+use model::Film;
+
 // Tells the slack of one cell.
 #[unsafe(no_mangle)]
 pub extern "C" fn film_slack(
@@ -31,9 +33,15 @@ pub extern "C" fn film_slack(
 ) -> u32
     ensures { SlackTold (slack_call (film_of (lent_head head.now) weights.now diagonals.now rights.now ups.now sources.now) field.now at) slack.old place.old result slack.new place.new }
 {
-    let head = archive::head_of(head);
-    let answer = problem::slack(head, weights, diagonals, rights, ups, sources, field, at);
-    tell::slack(answer, slack, place)
+    let film = Film {
+        head: archive::head_of(head),
+        weights,
+        diagonals,
+        rights,
+        ups,
+        sources,
+    };
+    tell::slack(problem::slack(&film, field, at), slack, place)
 }
 
 // Tells the film's margin.
@@ -50,9 +58,15 @@ pub extern "C" fn film_margin(
 ) -> u32
     ensures { MarginTold (margin_call (film_of (lent_head head.now) weights.now diagonals.now rights.now ups.now sources.now)) margin.old place.old result margin.new place.new }
 {
-    let head = archive::head_of(head);
-    let answer = line_estimate::margin(head, weights, diagonals, rights, ups, sources);
-    tell::margin(answer, margin, place)
+    let film = Film {
+        head: archive::head_of(head),
+        weights,
+        diagonals,
+        rights,
+        ups,
+        sources,
+    };
+    tell::margin(line_estimate::margin(&film), margin, place)
 }
 
 // Relaxes one cell: result is 0 for quiet, 1 for raised or 2 for over, then the pressure that it was raised to.
@@ -71,9 +85,15 @@ pub extern "C" fn film_relax(
 ) -> u32
     ensures { Leaves (relax_call (film_of (lent_head head.now) weights.now diagonals.now rights.now ups.now sources.now) field.old at) (λ a. RelaxTold a res.old place.old result res.new place.new) field.new }
 {
-    let head = archive::head_of(head);
-    let answer = problem::relax(head, weights, diagonals, rights, ups, sources, field, at);
-    tell::relax(answer, res, place)
+    let film = Film {
+        head: archive::head_of(head),
+        weights,
+        diagonals,
+        rights,
+        ups,
+        sources,
+    };
+    tell::relax(problem::relax(&film, field, at), res, place)
 }
 
 // Proposes pressures for a line: result is 1 for accepted or 0 for rejected, then the number of cells raised.
@@ -93,11 +113,15 @@ pub extern "C" fn film_propose(
 ) -> u32
     ensures { Leaves (propose_call (film_of (lent_head head.now) weights.now diagonals.now rights.now ups.now sources.now) line proposal.now field.old) (λ a. ProposeTold a res.old place.old result res.new place.new) field.new }
 {
-    let head = archive::head_of(head);
-    let answer = line::propose(
-        head, weights, diagonals, rights, ups, sources, field, line, proposal,
-    );
-    tell::propose(answer, res, place)
+    let film = Film {
+        head: archive::head_of(head),
+        weights,
+        diagonals,
+        rights,
+        ups,
+        sources,
+    };
+    tell::propose(line::propose(&film, field, line, proposal), res, place)
 }
 
 // Writes the program's own proposal for a line.
@@ -116,9 +140,13 @@ pub extern "C" fn film_estimate(
 ) -> u32
     ensures { Leaves (estimate_call (film_of (lent_head head.now) weights.now diagonals.now rights.now ups.now sources.now) line field.now proposal.old) (λ a. Told (refusal_in a) place.old result place.new) proposal.new }
 {
-    let head = archive::head_of(head);
-    let answer = line_estimate::estimate(
-        head, weights, diagonals, rights, ups, sources, field, line, proposal,
-    );
-    tell::estimate(answer, place)
+    let film = Film {
+        head: archive::head_of(head),
+        weights,
+        diagonals,
+        rights,
+        ups,
+        sources,
+    };
+    told::answer(line_estimate::estimate(&film, field, line, proposal), place)
 }

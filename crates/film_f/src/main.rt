@@ -2,7 +2,7 @@
 // `stdout` beside src/ was written from document 01 by hand: each line's comment there is the document's.
 #![tactic(auto)]
 
-use model::{Counts, Head, Margin, Proposed, Ran, Refusal, Relaxed, Slack};
+use model::{Counts, Film, Head, Ran, Refusal, Relaxed};
 use std::io;
 
 fn counts(rt: &impl Print, word: &str, c: Counts) -> io::Result<()> {
@@ -14,22 +14,15 @@ fn refused(rt: &impl Print, r: Refusal) -> io::Result<()> {
     print!(rt; "REFUSED {} {}", fault.number(), r.place)
 }
 
-fn ran(rt: &impl Print, answer: Ran) -> io::Result<()> {
+fn ran(rt: &impl Print, answer: Result<Ran, Refusal>) -> io::Result<()> {
     match answer {
-        Ran::Done(c) => counts(rt, "DONE", c),
-        Ran::Stopped(c) => counts(rt, "STOPPED", c),
-        Ran::Over(at, c) => {
+        Ok(Ran::Done(c)) => counts(rt, "DONE", c),
+        Ok(Ran::Stopped(c)) => counts(rt, "STOPPED", c),
+        Ok(Ran::Over(at, c)) => {
             counts(rt, "OVER", c)?;
             print!(rt; " {at}")
         }
-        Ran::Refused(r) => refused(rt, r),
-    }
-}
-
-fn slack(rt: &impl Print, answer: Slack) -> io::Result<()> {
-    match answer {
-        Slack::Is(x) => print!(rt; " {x}"),
-        Slack::Refused(r) => refused(rt, r),
+        Err(r) => refused(rt, r),
     }
 }
 
@@ -42,11 +35,18 @@ const RIGHTS: [u32; 2] = [27, 0];
 
 const UPS: [u32; 2] = [0, 0];
 
-fn head(ceiling: u32) -> Head {
-    Head {
-        rows: 1,
-        columns: 2,
-        ceiling,
+fn film<'a>(ceiling: u32, sources: &'a [i64]) -> Film<'a> {
+    Film {
+        head: Head {
+            rows: 1,
+            columns: 2,
+            ceiling,
+        },
+        weights: &WEIGHTS,
+        diagonals: &DIAGONALS,
+        rights: &RIGHTS,
+        ups: &UPS,
+        sources,
     }
 }
 
@@ -58,34 +58,28 @@ fn numbers(rt: &impl Print, xs: &[u32]) -> io::Result<()> {
     Ok(())
 }
 
-fn slack_on(rt: &impl Print, h: Head, sources: &[i64], field: &[u32], at: usize) -> io::Result<()> {
-    slack(
-        rt,
-        problem::slack(h, &WEIGHTS, &DIAGONALS, &RIGHTS, &UPS, sources, field, at),
-    )
+fn slack(rt: &impl Print, film: &Film, field: &[u32], at: usize) -> io::Result<()> {
+    match problem::slack(film, field, at) {
+        Ok(x) => print!(rt; " {x}"),
+        Err(r) => refused(rt, r),
+    }
 }
 
 // A run from a field: the answer, the field that it leaves and the two slacks.
 fn play_on(
     rt: &impl Print,
-    h: Head,
-    sources: &[i64],
+    film: &Film,
     field: &mut [u32],
     budget: u32,
     order: u32,
     proposals: bool,
 ) -> io::Result<()> {
-    ran(
-        rt,
-        run::run(
-            h, &WEIGHTS, &DIAGONALS, &RIGHTS, &UPS, sources, field, budget, order, proposals,
-        ),
-    )?;
+    ran(rt, run::run(film, field, budget, order, proposals))?;
     print!(rt; " :")?;
     numbers(rt, field)?;
     print!(rt; " :")?;
-    slack_on(rt, h, sources, field, 0)?;
-    slack_on(rt, h, sources, field, 1)?;
+    slack(rt, film, field, 0)?;
+    slack(rt, film, field, 1)?;
     println!(rt)
 }
 
@@ -100,8 +94,7 @@ fn play(
 ) -> io::Result<()> {
     play_on(
         rt,
-        head(ceiling),
-        &sources,
+        &film(ceiling, &sources),
         &mut field,
         budget,
         order,
@@ -109,84 +102,54 @@ fn play(
     )
 }
 
-fn proposed(rt: &impl Print, answer: Proposed) -> io::Result<()> {
-    match answer {
-        Proposed::Accepted(n) => print!(rt; " TAKEN {n}"),
-        Proposed::Rejected => print!(rt; " DECLINED"),
-        Proposed::Refused(r) => refused(rt, r),
-    }
-}
-
-fn relaxed(rt: &impl Print, answer: Relaxed) -> io::Result<()> {
-    match answer {
-        Relaxed::Quiet => print!(rt; " QUIET"),
-        Relaxed::Raised(p) => print!(rt; " RAISED {p}"),
-        Relaxed::Over(at) => print!(rt; " OVER {at}"),
-        Relaxed::Refused(r) => refused(rt, r),
-    }
-}
-
-fn margin(rt: &impl Print, answer: Margin) -> io::Result<()> {
-    match answer {
-        Margin::Is(k) => print!(rt; " {k}"),
-        Margin::Refused(r) => refused(rt, r),
-    }
-}
-
-fn margin_on(rt: &impl Print, h: Head, sources: &[i64]) -> io::Result<()> {
+fn margin(rt: &impl Print, film: &Film) -> io::Result<()> {
     print!(rt; "MARGIN")?;
-    margin(
-        rt,
-        line_estimate::margin(h, &WEIGHTS, &DIAGONALS, &RIGHTS, &UPS, sources),
-    )
+    match line_estimate::margin(film) {
+        Ok(k) => print!(rt; " {k}"),
+        Err(r) => refused(rt, r),
+    }
 }
 
-fn estimate_on(
-    rt: &impl Print,
-    h: Head,
-    sources: &[i64],
-    field: &[u32],
-    proposal: &mut [u32],
-) -> io::Result<()> {
-    line_estimate::estimate(
-        h, &WEIGHTS, &DIAGONALS, &RIGHTS, &UPS, sources, field, 1, proposal,
-    );
-    print!(rt; " OFFER")?;
-    numbers(rt, proposal)
+fn estimate(rt: &impl Print, film: &Film, field: &[u32], proposal: &mut [u32]) -> io::Result<()> {
+    match line_estimate::estimate(film, field, 1, proposal) {
+        Ok(()) => {
+            print!(rt; " OFFER")?;
+            numbers(rt, proposal)
+        }
+        Err(r) => refused(rt, r),
+    }
 }
 
-fn propose_on(
-    rt: &impl Print,
-    h: Head,
-    sources: &[i64],
-    field: &mut [u32],
-    proposal: &[u32],
-) -> io::Result<()> {
-    proposed(
-        rt,
-        line::propose(
-            h, &WEIGHTS, &DIAGONALS, &RIGHTS, &UPS, sources, field, 1, proposal,
-        ),
-    )
+fn propose(rt: &impl Print, film: &Film, field: &mut [u32], proposal: &[u32]) -> io::Result<()> {
+    match line::propose(film, field, 1, proposal) {
+        Ok(Some(n)) => print!(rt; " TAKEN {n}"),
+        Ok(None) => print!(rt; " DECLINED"),
+        Err(r) => refused(rt, r),
+    }
 }
 
-fn relax_on(rt: &impl Print, h: Head, sources: &[i64], field: &mut [u32]) -> io::Result<()> {
-    relaxed(
-        rt,
-        problem::relax(h, &WEIGHTS, &DIAGONALS, &RIGHTS, &UPS, sources, field, 0),
-    )
+fn relax(rt: &impl Print, film: &Film, field: &mut [u32]) -> io::Result<()> {
+    match problem::relax(film, field, 0) {
+        Ok(Relaxed::Quiet) => print!(rt; " QUIET"),
+        Ok(Relaxed::Raised(p)) => print!(rt; " RAISED {p}"),
+        Ok(Relaxed::Over(at)) => print!(rt; " OVER {at}"),
+        Err(r) => refused(rt, r),
+    }
 }
 
 // The margin, the estimate of the row from the field, its proposal, and the relaxation of the first cell.
-fn steps(rt: &impl Print, ceiling: u32, sources: [i64; 2]) -> io::Result<()> {
-    let h = head(ceiling);
+fn steps_on(rt: &impl Print, film: &Film) -> io::Result<()> {
     let mut field = [0u32, 0];
     let mut proposal = [0u32, 0];
-    margin_on(rt, h, &sources)?;
-    estimate_on(rt, h, &sources, &field, &mut proposal)?;
-    propose_on(rt, h, &sources, &mut field, &proposal)?;
-    relax_on(rt, h, &sources, &mut field)?;
+    margin(rt, film)?;
+    estimate(rt, film, &field, &mut proposal)?;
+    propose(rt, film, &mut field, &proposal)?;
+    relax(rt, film, &mut field)?;
     println!(rt)
+}
+
+fn steps(rt: &impl Print, ceiling: u32, sources: [i64; 2]) -> io::Result<()> {
+    steps_on(rt, &film(ceiling, &sources))
 }
 
 // Film F's runs, each from a field of its own.

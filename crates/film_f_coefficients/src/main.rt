@@ -3,7 +3,7 @@
 // the documents, and not from what the program prints.
 #![tactic(auto)]
 
-use model::{Head, LoadedCoefficients, Refusal, Saved, Steps};
+use model::{Film, Gauged, Head, Refusal};
 use std::fmt::Display;
 use std::io;
 
@@ -23,10 +23,10 @@ fn refused(rt: &impl Print, r: Refusal) -> io::Result<()> {
     print!(rt; " REFUSED {} {}", fault.number(), r.place)
 }
 
-fn saved(rt: &impl Print, answer: Saved) -> io::Result<()> {
+fn saved(rt: &impl Print, answer: Result<(), Refusal>) -> io::Result<()> {
     match answer {
-        Saved::Written => print!(rt; " WRITTEN"),
-        Saved::Refused(r) => refused(rt, r),
+        Ok(()) => print!(rt; " WRITTEN"),
+        Err(r) => refused(rt, r),
     }
 }
 
@@ -41,11 +41,15 @@ fn octets(rt: &impl Print, bytes: &[u8]) -> io::Result<()> {
 fn convert(rt: &impl Print, thickness: u8, out: &mut [u8]) -> io::Result<()> {
     let mut thicknesses = THICKNESSES;
     thicknesses[4] = thickness;
+    let film = Gauged {
+        head: HEAD,
+        weights: &WEIGHTS,
+        thicknesses: &thicknesses,
+        wedge: 100,
+        steps: None,
+    };
     print!(rt; "CONVERT")?;
-    saved(
-        rt,
-        conversion::convert(HEAD, &WEIGHTS, &thicknesses, 100, Steps::Absent, out),
-    )?;
+    saved(rt, conversion::convert(&film, out))?;
     print!(rt; " :")?;
     octets(rt, out)
 }
@@ -59,115 +63,80 @@ fn number_at<N: Copy + Display + Drop>(rt: &impl Print, xs: &[N], i: usize) -> i
 }
 
 // One place of each buffer.
-fn place(
-    rt: &impl Print,
-    weights: &[u16],
-    diagonals: &[u32],
-    rights: &[u32],
-    ups: &[u32],
-    sources: &[i64],
-    i: usize,
-) -> io::Result<()> {
+fn place(rt: &impl Print, buffers: &Film, i: usize) -> io::Result<()> {
     print!(rt; " :")?;
-    number_at(rt, weights, i)?;
-    number_at(rt, diagonals, i)?;
-    number_at(rt, rights, i)?;
-    number_at(rt, ups, i)?;
-    number_at(rt, sources, i)
+    number_at(rt, buffers.weights, i)?;
+    number_at(rt, buffers.diagonals, i)?;
+    number_at(rt, buffers.rights, i)?;
+    number_at(rt, buffers.ups, i)?;
+    number_at(rt, buffers.sources, i)
 }
 
 // The first three: those of film F, and one beyond.
-fn show(
-    rt: &impl Print,
-    weights: &[u16],
-    diagonals: &[u32],
-    rights: &[u32],
-    ups: &[u32],
-    sources: &[i64],
-) -> io::Result<()> {
+fn show(rt: &impl Print, buffers: &Film) -> io::Result<()> {
     for i in 0..3 {
-        place(rt, weights, diagonals, rights, ups, sources, i)?;
+        place(rt, buffers, i)?;
     }
     println!(rt)
 }
 
-fn loaded(rt: &impl Print, answer: LoadedCoefficients) -> io::Result<()> {
+fn loaded(rt: &impl Print, answer: Result<Head, Refusal>) -> io::Result<()> {
     match answer {
-        LoadedCoefficients::Film(h) => print!(rt; " {} {} {}", h.rows, h.columns, h.ceiling),
-        LoadedCoefficients::Refused(r) => refused(rt, r),
+        Ok(h) => print!(rt; " {} {} {}", h.rows, h.columns, h.ceiling),
+        Err(r) => refused(rt, r),
     }
 }
 
 // The reader, on buffers that hold other numbers before.
-fn read_into(
-    rt: &impl Print,
-    file: &[u8],
-    weights: &mut [u16],
-    diagonals: &mut [u32],
-    rights: &mut [u32],
-    ups: &mut [u32],
-    sources: &mut [i64],
-) -> io::Result<()> {
-    print!(rt; "READ")?;
-    loaded(
-        rt,
-        coefficient_file::read(file, weights, diagonals, rights, ups, sources),
-    )?;
-    show(rt, weights, diagonals, rights, ups, sources)
-}
-
-fn read(rt: &impl Print, file: &[u8]) -> io::Result<()> {
+fn read_into(rt: &impl Print, file: &[u8], sources: &mut [i64]) -> io::Result<()> {
     let mut weights = [7u16; 1024];
     let mut diagonals = [7u32; 1024];
     let mut rights = [7u32; 1024];
     let mut ups = [7u32; 1024];
-    let mut sources = [-7i64; 1024];
-    read_into(
+    print!(rt; "READ")?;
+    loaded(
         rt,
-        file,
-        &mut weights,
-        &mut diagonals,
-        &mut rights,
-        &mut ups,
-        &mut sources,
-    )
+        coefficient_file::read(
+            file,
+            &mut weights,
+            &mut diagonals,
+            &mut rights,
+            &mut ups,
+            sources,
+        ),
+    )?;
+    let buffers = Film {
+        head: HEAD,
+        weights: &weights,
+        diagonals: &diagonals,
+        rights: &rights,
+        ups: &ups,
+        sources: &sources[..],
+    };
+    show(rt, &buffers)
+}
+
+fn read(rt: &impl Print, file: &[u8]) -> io::Result<()> {
+    read_into(rt, file, &mut [-7i64; 1024])
 }
 
 // With a last buffer that is one too short.
 fn read_short(rt: &impl Print, file: &[u8]) -> io::Result<()> {
-    let mut weights = [7u16; 1024];
-    let mut diagonals = [7u32; 1024];
-    let mut rights = [7u32; 1024];
-    let mut ups = [7u32; 1024];
-    let mut sources = [-7i64; 1023];
-    read_into(
-        rt,
-        file,
-        &mut weights,
-        &mut diagonals,
-        &mut rights,
-        &mut ups,
-        &mut sources,
-    )
+    read_into(rt, file, &mut [-7i64; 1023])
 }
 
 // The writer, with that first weight and that first diagonal.
 fn write(rt: &impl Print, weight: u16, diagonal: u32, out: &mut [u8]) -> io::Result<()> {
-    let weights = [weight, 1];
-    let diagonals = [diagonal, 51];
+    let film = Film {
+        head: HEAD,
+        weights: &[weight, 1],
+        diagonals: &[diagonal, 51],
+        rights: &[27, 0],
+        ups: &[0, 0],
+        sources: &[-200, -100],
+    };
     print!(rt; "WRITE")?;
-    saved(
-        rt,
-        coefficient_file::write(
-            HEAD,
-            &weights,
-            &diagonals,
-            &[27u32, 0],
-            &[0u32, 0],
-            &[-200i64, -100],
-            out,
-        ),
-    )?;
+    saved(rt, coefficient_file::write(&film, out))?;
     print!(rt; " :")?;
     octets(rt, out)
 }

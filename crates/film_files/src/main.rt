@@ -6,7 +6,7 @@
 // in Python's whole numbers, and each faulty file carries its refusal's number and place written by hand.
 #![tactic(auto)]
 
-use model::{Formed, Head, Loaded, Refusal, Saved, Steps};
+use model::{Gauged, Numbers, Refusal};
 use std::fmt::Display;
 use std::rt::Files;
 use std::{env, fs, io};
@@ -27,46 +27,25 @@ fn numbers<N: Copy + Display + Drop>(rt: &impl Print, word: &str, xs: &[N]) -> i
 
 fn coefficients_in(
     rt: &impl Print,
-    head: Head,
-    weights: &[u16],
-    thicknesses: &[u8],
-    wedge: i32,
-    steps: Steps,
+    film: &Gauged,
     diagonals: &mut [u32],
     rights: &mut [u32],
     ups: &mut [u32],
     sources: &mut [i64],
 ) -> io::Result<()> {
-    match coefficients::form(
-        head,
-        weights,
-        thicknesses,
-        wedge,
-        steps,
-        diagonals,
-        rights,
-        ups,
-        sources,
-    ) {
-        Formed::Written => {
+    match coefficients::form(film, diagonals, rights, ups, sources) {
+        Ok(()) => {
             numbers(rt, "DIAGONALS", diagonals)?;
             numbers(rt, "RIGHTS", rights)?;
             numbers(rt, "UPS", ups)?;
             numbers(rt, "SOURCES", sources)
         }
-        Formed::Refused(r) => refused(rt, r),
+        Err(r) => refused(rt, r),
     }
 }
 
-fn coefficients(
-    rt: &impl Print,
-    head: Head,
-    weights: &[u16],
-    thicknesses: &[u8],
-    wedge: i32,
-    steps: Steps,
-) -> io::Result<()> {
-    let n = weights.len();
+fn coefficients(rt: &impl Print, film: &Gauged) -> io::Result<()> {
+    let n = film.weights.len();
     if n > 1024 {
         return Ok(());
     }
@@ -76,11 +55,7 @@ fn coefficients(
     let mut sources = [0i64; 1024];
     coefficients_in(
         rt,
-        head,
-        weights,
-        thicknesses,
-        wedge,
-        steps,
+        film,
         &mut diagonals[..n],
         &mut rights[..n],
         &mut ups[..n],
@@ -88,79 +63,48 @@ fn coefficients(
     )
 }
 
-fn write_back(
-    rt: &impl Print,
-    head: Head,
-    weights: &[u16],
-    thicknesses: &[u8],
-    wedge: i32,
-    steps: Steps,
-    file: &[u8],
-    out: &mut [u8],
-) -> io::Result<()> {
-    match file::write(head, weights, thicknesses, wedge, steps, out) {
-        Saved::Written => {
+fn write_back(rt: &impl Print, film: &Gauged, file: &[u8], out: &mut [u8]) -> io::Result<()> {
+    match file::write(film, out) {
+        Ok(()) => {
             if file == out {
                 println!(rt; "WRITES BACK THE SAME")
             } else {
                 println!(rt; "WRITES BACK ANOTHER FILE")
             }
         }
-        Saved::Refused(r) => refused(rt, r),
+        Err(r) => refused(rt, r),
     }
 }
 
-// A film's grid steps, where it has a field for them.
-fn grid(rt: &impl Print, steps: Steps) -> io::Result<()> {
-    match steps {
-        Steps::Absent => Ok(()),
-        Steps::Given(factors) => print!(rt; " ALONG {} ACROSS {}", factors.along, factors.across),
-    }
-}
-
-fn film(
-    rt: &impl Print,
-    head: Head,
-    weights: &[u16],
-    thicknesses: &[u8],
-    wedge: i32,
-    steps: Steps,
-    file: &[u8],
-) -> io::Result<()> {
+fn show_film(rt: &impl Print, film: &Gauged, file: &[u8]) -> io::Result<()> {
+    let head = film.head;
+    let wedge = film.wedge;
     print!(rt;
         "FILM {} {} {} {wedge}",
         head.rows, head.columns, head.ceiling
     )?;
-    grid(rt, steps)?;
+    if let Some(factors) = film.steps {
+        print!(rt; " ALONG {} ACROSS {}", factors.along, factors.across)?;
+    }
     println!(rt)?;
-    coefficients(rt, head, weights, thicknesses, wedge, steps)?;
+    coefficients(rt, film)?;
     let n = file.len();
     if n > 4096 {
         return Ok(());
     }
     let mut out = [0u8; 4096];
-    write_back(
-        rt,
-        head,
-        weights,
-        thicknesses,
-        wedge,
-        steps,
-        file,
-        &mut out[..n],
-    )
+    write_back(rt, film, file, &mut out[..n])
 }
 
 // The parts of the buffers that the film uses. What the reader accepts is within all these bounds.
 fn used(
     rt: &impl Print,
-    head: Head,
+    read: Numbers,
     weights: &[u16],
     thicknesses: &[u8],
-    wedge: i32,
-    steps: Steps,
     file: &[u8],
 ) -> io::Result<()> {
+    let head = read.head;
     if head.rows > 32 || head.columns > 32 {
         return Ok(());
     }
@@ -169,15 +113,14 @@ fn used(
     if n > weights.len() || t > thicknesses.len() {
         return Ok(());
     }
-    film(
-        rt,
+    let film = Gauged {
         head,
-        &weights[..n],
-        &thicknesses[..t],
-        wedge,
-        steps,
-        file,
-    )
+        weights: &weights[..n],
+        thicknesses: &thicknesses[..t],
+        wedge: read.wedge,
+        steps: read.steps,
+    };
+    show_film(rt, &film, file)
 }
 
 fn film_in(
@@ -187,16 +130,8 @@ fn film_in(
     thicknesses: &mut [u8],
 ) -> io::Result<()> {
     match file::read(file, weights, thicknesses) {
-        Loaded::Film(head, wedge, steps) => used(
-            rt,
-            head,
-            weights,
-            thicknesses,
-            wedge,
-            steps,
-            file,
-        ),
-        Loaded::Refused(r) => refused(rt, r),
+        Ok(read) => used(rt, read, weights, thicknesses, file),
+        Err(r) => refused(rt, r),
     }
 }
 

@@ -12,7 +12,6 @@ ghost use Rattle.std.specs.Io.KnownBytes.{Appends};
 ghost use Rattle.model.specs.Report.{report_of};
 ghost use Rattle.model.specs.ReportCall.{longest_report};
 
-use model::Reported;
 use std::io;
 use std::io::{Read, Write};
 
@@ -21,8 +20,8 @@ fn print_report<W: Write>(out: &mut W, file: &[u8], text: &mut [u8]) -> io::Resu
     ensures { OnOk result (Appends (W.contents out.old) (W.contents out.new) (report_of file.now)) }
 {
     match report::report(file, text) {
-        Reported::Written(n) => out.write_all(&text[..n]),
-        Reported::Refused(_) => Ok(()),
+        Ok(n) => out.write_all(&text[..n]),
+        Err(_) => Ok(()),
     }
 }
 

@@ -1,3 +1,3 @@
 -- Laws that the proofs of the functions, and other crates, share.
 pub mod Answer
-pub mod Zeros
+pub mod Buffers

@@ -25,12 +25,12 @@ abbrev pub coefficients_at : Gauge → ℕ → ℕ → Coefficients
 coefficients_at g r c = coefficients_of (around_of g r c) (factors_of g.steps) g.wedge (ltb c g.columns) (ltb r g.rows)
 
 -- a shape that has passed its test, with a thickness for each place of the grid and its ring
-pub record Ringed (rows columns : ℕ) (thicknesses : List ℕ) : Type 0 where
-  pub rows_some : 1 ≤ rows
-  pub rows_low : rows ≤ side_limit
-  pub columns_some : 1 ≤ columns
-  pub columns_low : columns ≤ side_limit
-  pub thicknesses_len : length thicknesses ≡ ringed rows columns
+pub record Ringed (g : Gauge) : Type 0 where
+  pub rows_some : 1 ≤ g.rows
+  pub rows_low : g.rows ≤ side_limit
+  pub columns_some : 1 ≤ g.columns
+  pub columns_low : g.columns ≤ side_limit
+  pub thicknesses_len : length g.thicknesses ≡ ringed g.rows g.columns
 
 -- there is room for n numbers in each of the four lists
 pub record Room (n : ℕ) (diagonals rights ups : List ℕ) (sources : List ℤ) : Type 0 where

@@ -14,11 +14,11 @@ use Rattle.model.proofs.Checks.{and_parts, or_else_assoc, or_else_parts, fail_if
 use Rattle.model.proofs.Sides.{cells_low}
 use Rattle.model.proofs.File.{gauge_shape, stepped}
 use Rattle.forming.specs.Cell.{Ringed}
-use Rattle.gauge.specs.Tests.{numbers_check, sized_check, Measured}
+use Rattle.gauge.specs.Tests.{numbers_check, values_check, Measured}
 use Rattle.forming.proofs.Cell.{ring_low}
 
 module _ {g : Gauge} (m : Measured g) where
-  pub measured_ringed : Ringed g.rows g.columns g.thicknesses
+  pub measured_ringed : Ringed g
   measured_ringed =
       let s = gauge_shape g m.shape in
       record {
@@ -57,9 +57,19 @@ numbers_stepped g e =
     let d = or_else_parts (wedge_check g.wedge (wedge_offset (cells g.rows g.columns) (ringed g.rows g.columns))) _ c.1 in
     stepped g.steps _ d.1
 
+-- the code's tests, of a film that it has under another name
+pub shape_is : {f g : Gauge} {r : Check} → g ≡ f → r ≡ shape_check g.rows rows_offset g.columns columns_offset
+    → r ≡ shape_check f.rows rows_offset f.columns columns_offset
+shape_is e h = rw e at h
+
+pub lengths_are : (g : Gauge) (fits : Bool) {fit : Bool} {r : Check} → fit ≡ gauge_fits g → r ≡ fail_if (not (fit && fits)) 10 0
+    → r ≡ fail_if (not (gauge_fits g && fits)) 10 0
+lengths_are g fits e h = rw e at h
+
 -- document 01's order of tests, by the parts in which the code goes
 pub gauge_parts : (g : Gauge) (fits : Bool) {r : Check}
-    → r ≡ (shape_check g.rows rows_offset g.columns columns_offset or_else sized_check g fits) → r ≡ gauge_check g (gauge_fits g && fits)
+    → r ≡ (shape_check g.rows rows_offset g.columns columns_offset or_else fail_if (not (gauge_fits g && fits)) 10 0 or_else values_check g)
+    → r ≡ gauge_check g (gauge_fits g && fits)
 unfolding gauge_check
 gauge_parts g fits e = e ∙ simp or_else_assoc
 

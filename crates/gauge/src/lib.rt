@@ -9,77 +9,49 @@ ghost use Rattle.std.specs.Prelude.{◌≡◌, ◌&&◌};
 ghost use Rattle.model.specs.Refusals.{pass, check_of};
 ghost use Rattle.model.specs.Checks.{shape_check};
 ghost use Rattle.model.specs.File.{rows_offset, columns_offset, gauge_check};
-ghost use Rattle.model.specs.FileCalls.{gauge_of, gauge_fits};
-ghost use Rattle.gauge.specs.Tests.{numbers_check, values_check, sized_check, Measured};
+ghost use Rattle.model.specs.FileCalls.{gauge_fits};
+ghost use Rattle.gauge.specs.Tests.{numbers_check, values_check, Measured};
 
 use fault::Fault;
-use model::{Head, Steps, Tested};
+use model::{Gauged, Refusal};
 
 // Refusals 5, 6, 7, 8 and 15, of a film whose shape and lengths have passed.
-fn number_tests(head: Head, weights: &[u16], thicknesses: &[u8], wedge: i32, steps: Steps) -> Tested
-    requires { Measured (gauge_of head weights.now thicknesses.now wedge steps) }
-    ensures { check_of result ≡ numbers_check (gauge_of head weights.now thicknesses.now wedge steps) }
+fn number_tests(film: &Gauged) -> Result<(), Refusal>
+    requires { Measured film.now }
+    ensures { check_of result ≡ numbers_check film.now }
 {
-    let end = 15 + 2 * weights.len(); // behind the weights; a body stands three bytes behind its tag
-    let ceiling = refusals::ceiling_test(head.ceiling, 8);
-    let weight = list_tests::weight_test(weights, 15, 2);
-    let thickness = list_tests::thicknesses_test(thicknesses, end + 3);
-    let last = end + 3 + thicknesses.len() + 3;
-    let wedge_found = list_tests::wedge_test(wedge, last);
-    let steps_found = step_tests::steps_test(steps, last + 4 + 3);
-    refusals::or_else(
-        ceiling,
-        refusals::or_else(
-            weight,
-            refusals::or_else(thickness, refusals::or_else(wedge_found, steps_found)),
-        ),
-    )
+    let end = 15 + 2 * film.weights.len(); // behind the weights; a body stands three bytes behind its tag
+    let last = end + 3 + film.thicknesses.len() + 3;
+    refusals::ceiling_test(film.head.ceiling, 8)?;
+    list_tests::weight_test(film.weights, 15, 2)?;
+    list_tests::thicknesses_test(film.thicknesses, end + 3)?;
+    list_tests::wedge_test(film.wedge, last)?;
+    step_tests::steps_test(film.steps, last + 4 + 3)
 }
 
 // Refusals 5, 6, 7, 8, 15 and 9, of a film whose shape and lengths have passed.
-fn value_tests(head: Head, weights: &[u16], thicknesses: &[u8], wedge: i32, steps: Steps) -> Tested
-    requires { Measured (gauge_of head weights.now thicknesses.now wedge steps) }
-    ensures { check_of result ≡ values_check (gauge_of head weights.now thicknesses.now wedge steps) }
+fn value_tests(film: &Gauged) -> Result<(), Refusal>
+    requires { Measured film.now }
+    ensures { check_of result ≡ values_check film.now }
 {
-    match number_tests(head, weights, thicknesses, wedge, steps) {
-        Tested::Fine => row_sums::dominance_test(head, weights, thicknesses, steps),
-        Tested::Refused(r) => Tested::Refused(r),
-    }
+    number_tests(film)?;
+    row_sums::dominance_test(film)
 }
 
-// Refusals 10, 5, 6, 7, 8, 15 and 9, of a film whose shape has passed.
-fn sized_tests(
-    head: Head,
-    weights: &[u16],
-    thicknesses: &[u8],
-    wedge: i32,
-    steps: Steps,
-    fits: bool,
-) -> Tested
-    requires { shape_check head.rows rows_offset head.columns columns_offset ≡ pass }
-    ensures { check_of result ≡ sized_check (gauge_of head weights.now thicknesses.now wedge steps) fits }
+// Whether the film has a weight for each cell, and a thickness for each place of the grid and its ring; its shape has passed.
+fn gauge_fits(film: &Gauged) -> bool
+    requires { shape_check film.now.rows rows_offset film.now.columns columns_offset ≡ pass }
+    ensures { result ≡ gauge_fits film.now }
 {
-    let whole = (weights.len() == shape::area(head.rows, head.columns))
-        & (thicknesses.len() == shape::ring(head.rows, head.columns));
-    match refusals::fail_if(!(whole & fits), Fault::WrongBuffer, 0) {
-        Tested::Fine => value_tests(head, weights, thicknesses, wedge, steps),
-        Tested::Refused(r) => Tested::Refused(r),
-    }
+    (film.weights.len() == shape::area(film.head.rows, film.head.columns))
+        & (film.thicknesses.len() == shape::ring(film.head.rows, film.head.columns))
 }
 
-// The tests of a call that takes a film's numbers; `fits` says whether the call's other slices have their lengths.
-pub fn gauge_tests(
-    head: Head,
-    weights: &[u16],
-    thicknesses: &[u8],
-    wedge: i32,
-    steps: Steps,
-    fits: bool,
-) -> Tested
-    ensures { check_of result ≡ gauge_check (gauge_of head weights.now thicknesses.now wedge steps) (gauge_fits (gauge_of head weights.now thicknesses.now wedge steps) && fits) }
+// The tests of a film's numbers; `fits` says whether the call's other slices have their lengths.
+pub fn gauge_tests(film: &Gauged, fits: bool) -> Result<(), Refusal>
+    ensures { check_of result ≡ gauge_check film.now (gauge_fits film.now && fits) }
 {
-    match refusals::shape_test(head.rows, 3, head.columns, 4) {
-        Tested::Fine => sized_tests(head, weights, thicknesses, wedge, steps, fits),
-        Tested::Refused(r) => Tested::Refused(r),
-    }
+    refusals::shape_test(film.head.rows, 3, film.head.columns, 4)?;
+    refusals::fail_if(!(gauge_fits(film) & fits), Fault::WrongBuffer, 0)?;
+    value_tests(film)
 }

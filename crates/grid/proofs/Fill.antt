@@ -31,6 +31,11 @@ module _ {A : Type 0} where
         len = length-set after i v ∙ f.len;
       }
 
+-- the same of the first places alone
+pub filled_more : {A : Type 0} (g : ℕ → A) {i : ℕ} {v : A} (table : List A) → i < length table → v ≡ g i → take i table ≡ tabulate i g
+    → take (i + 1) (set table i v) ≡ tabulate (i + 1) g
+filled_more g {i} {v} table h e f = (fill_more g {before = table} h e record { front = f; len = refl }).front
+
 -- the first n places hold a list's elements: they are that list
 pub fill_copy : (l : List ℕ) {before after : List ℕ} → Filled (λ k. get_or l k 0) (length l) before after → take (length l) after ≡ l
 fill_copy l f = f.front ∙ sym (tabulate_is (length l) (λ k. get_or l k 0) 0 l refl (λ i h. refl))

@@ -5,10 +5,8 @@ use Prim.Native.Nat.{ℕ, ◌+◌, ◌-◌, ◌*◌, ◌≤◌, ◌<◌, ◌^◌
 use native.Mathlib.Nat.{mul-le-mul, mul-zero}
 use native.Mathlib.Omega.{arith}
 use borrow.Author.Tests.{lt-ltb, le-ltb}
-use lib.IntN.{ℤ}
 use lib.ListN.{length, get_or, get_or-eq_default}
-use Rattle.grid.specs.Pull.{back_of, ahead_of, cell_by, Aligned, IsCell}
-use Rattle.cell.specs.declared.Cell.{Cell}
+use Rattle.grid.specs.Pull.{back_of, ahead_of}
 
 module _ (links numbers : List ℕ) (i k : ℕ) where
   pub back_none : i < k → back_of links numbers i k ≡ 0
@@ -25,21 +23,3 @@ module _ (links numbers : List ℕ) (i k : ℕ) where
 
 pub product_small : (a b : ℕ) → a ≤ 2 ^ 26 → b < 2 ^ 32 → a * b ≤ 2 ^ 58
 product_small a b h l = let m : a * b ≤ 2 ^ 26 * 2 ^ 32 = mul-le-mul {m₁ = b} {m₂ = 2 ^ 32} h (omega arith) in omega arith
-
--- the cell that was loaded, from its pull
-pub loads : {columns : ℕ} {diagonals rights ups : List ℕ} {sources : List ℤ} {numbers : List ℕ} (i : ℕ) (r : Cell)
-    → Aligned columns diagonals rights ups sources numbers → i < length numbers → r ≡ cell_by columns diagonals rights ups sources numbers i
-    → r.pull ≤ 2 ^ 60 → IsCell r (cell_by columns diagonals rights ups sources numbers i)
-unfolding cell_by
-loads i r L h e p =
-    let c = L.cell i h in
-    record {
-      is = e;
-      bounded = record {
-        some = rw e c.some;
-        diagonal = rw e c.diagonal_low;
-        pull = p;
-        positive = rw e c.positive_low;
-        negative = rw e c.negative_low;
-      };
-    }

@@ -1,6 +1,6 @@
 -- A cell and its neighbours, by index alone.
-use Rattle.std.specs.Prelude.{◌≡◌, cond, List, ℕ, ◌+◌, ◌-◌, ◌*◌, ◌≤◌, ◌<◌, ◌^◌, ltb, ℤ, pos, length, get_or}
-use Rattle.model.specs.Integers.{positive_part, negative_part}
+use Rattle.std.specs.Prelude.{◌≡◌, cond, List, ℕ, ◌+◌, ◌-◌, ◌*◌, ◌≤◌, ◌^◌, ltb, length, get_or}
+use Rattle.model.specs.Film.{Film, diagonal_at, pull_of, source_at}
 use Rattle.cell.specs.Cell.{Bounded}
 use Rattle.cell.specs.declared.Cell.{Cell}
 
@@ -25,27 +25,9 @@ unfoldable pub pull_by : ℕ → List ℕ → List ℕ → List ℕ → ℕ → 
 pull_by columns rights ups numbers i =
     back_of rights numbers i 1 + ahead_of rights numbers i 1 + (back_of ups numbers i columns + ahead_of ups numbers i columns)
 
-unfoldable pub cell_by : ℕ → List ℕ → List ℕ → List ℕ → List ℤ → List ℕ → ℕ → Cell
-cell_by columns diagonals rights ups sources numbers i =
-    record { diagonal = get_or diagonals i 0; pull = pull_by columns rights ups numbers i; source = get_or sources i (pos 0) }
-
--- a diagonal and a source within the limits that a cell asks for
-pub record Limits (diagonal : ℕ) (source : ℤ) : Type 0 where
-  pub some : 0 < diagonal
-  pub diagonal_low : diagonal ≤ 2 ^ 28
-  pub positive_low : positive_part source ≤ 2 ^ 60
-  pub negative_low : negative_part source ≤ 2 ^ 60
-
--- coefficients for each of the numbers
-pub record Aligned (columns : ℕ) (diagonals rights ups : List ℕ) (sources : List ℤ) (numbers : List ℕ) : Type 0 where
-  pub right : Links rights numbers
-  pub up : Links ups numbers
-  pub diagonals_len : length diagonals ≡ length numbers
-  pub sources_len : length sources ≡ length numbers
-  pub columns_low : columns ≤ 2 ^ 32
-  pub cell : (i : ℕ) → i < length numbers → Limits (get_or diagonals i 0) (get_or sources i (pos 0))
-
--- r is that cell, and within its limits
-pub record IsCell (r cell : Cell) : Type 0 where
-  pub is : r ≡ cell
+-- r is the cell i of the film, with numbers for pressures, and within its limits
+pub record IsCell (r : Cell) (f : Film) (numbers : List ℕ) (i : ℕ) : Type 0 where
+  pub diagonal : r.diagonal ≡ diagonal_at f i
+  pub pull : r.pull ≡ pull_of f numbers i
+  pub source : r.source ≡ source_at f i
   pub bounded : Bounded r

@@ -7,12 +7,12 @@
 #![tactic(auto)]
 
 ghost use Rattle.std.specs.Prelude.{◌≡◌, List, [], ℕ, ◌+◌, ◌-◌, ◌*◌, ◌≤◌, ◌<◌, ◌^◌, length, take};
-ghost use Rattle.model.specs.Film.{film_of, slack};
+ghost use Rattle.model.specs.Film.{size_of, slack};
 ghost use Rattle.model.specs.Accepted.{Limited};
-ghost use Rattle.grid.specs.Pull.{Links, back_of, ahead_of, Product, pull_by, cell_by, Aligned, IsCell};
+ghost use Rattle.grid.specs.Pull.{Links, back_of, ahead_of, Product, pull_by, IsCell};
 
 use cell::Cell;
-use model::Head;
+use model::Film;
 
 // The link to the cell that lies `step` before `at`, times that cell's number; 0 if there is none.
 pub fn pull_back(links: &[u32], numbers: &[u32], at: usize, step: usize) -> u64
@@ -29,7 +29,7 @@ pub fn pull_back(links: &[u32], numbers: &[u32], at: usize, step: usize) -> u64
 // The link to the cell that lies `step` after `at`, times that cell's number; 0 if there is none.
 pub fn pull_ahead(links: &[u32], numbers: &[u32], at: usize, step: usize) -> u64
     requires links { Links links.now numbers.now × (at < length numbers.now) }
-    requires step_bound { step ≤ 2 ^ 32 }
+    requires step { step ≤ 2 ^ 32 }
     ensures { Product result (ahead_of links.now numbers.now at step) }
 {
     let other = at + step;
@@ -42,7 +42,7 @@ pub fn pull_ahead(links: &[u32], numbers: &[u32], at: usize, step: usize) -> u64
 // The sum of link × neighbour's number.
 pub fn pull_at(rights: &[u32], ups: &[u32], columns: usize, numbers: &[u32], at: usize) -> u64
     requires links { Links rights.now numbers.now × Links ups.now numbers.now }
-    requires at_in_bounds { (at < length numbers.now) × (columns ≤ 2 ^ 32) }
+    requires inside { (at < length numbers.now) × (columns ≤ 2 ^ 32) }
     ensures { (result ≡ pull_by columns rights.now ups.now numbers.now at) × (result ≤ 2 ^ 60) }
 {
     pull_back(rights, numbers, at, 1)
@@ -50,44 +50,28 @@ pub fn pull_at(rights: &[u32], ups: &[u32], columns: usize, numbers: &[u32], at:
         + (pull_back(ups, numbers, at, columns) + pull_ahead(ups, numbers, at, columns))
 }
 
-// A cell's diagonal, pull and source, with pressures or other numbers of the cells.
-pub fn cell_at(
-    diagonals: &[u32],
-    rights: &[u32],
-    ups: &[u32],
-    sources: &[i64],
-    columns: usize,
-    numbers: &[u32],
-    at: usize,
-) -> Cell
-    requires { Aligned columns diagonals.now rights.now ups.now sources.now numbers.now × (at < length numbers.now) }
-    ensures { IsCell result (cell_by columns diagonals.now rights.now ups.now sources.now numbers.now at) }
+// A cell's diagonal, pull and source, with pressures or other numbers of the cells, in a film that is within its limits.
+pub fn cell_at(film: &Film, numbers: &[u32], at: usize) -> Cell
+    requires limited { Limited film.now }
+    requires numbers { (length numbers.now ≡ size_of film.now) × (at < size_of film.now) }
+    ensures { IsCell result film.now numbers.now at }
 {
-    let pull = pull_at(rights, ups, columns, numbers, at);
+    let columns = film.head.columns as usize;
     Cell {
-        diagonal: diagonals[at],
-        pull: pull,
-        source: sources[at],
+        diagonal: film.diagonals[at],
+        pull: pull_at(film.rights, film.ups, columns, numbers, at),
+        source: film.sources[at],
     }
 }
 
-// The slack of a cell of a film that has passed its tests.
-pub fn slack_of(
-    head: Head,
-    diagonals: &[u32],
-    rights: &[u32],
-    ups: &[u32],
-    sources: &[i64],
-    field: &[u32],
-    at: usize,
-) -> i64
-    requires by_index { (w : List ℕ) × Limited (film_of head w diagonals.now rights.now ups.now sources.now) }
-    requires field_len { (length field.now ≡ head.rows * head.columns) × (at < head.rows * head.columns) }
-    ensures { result ≡ slack (film_of head [] diagonals.now rights.now ups.now sources.now) field.now at }
+// Its slack.
+pub fn slack_of(film: &Film, field: &[u32], at: usize) -> i64
+    requires limited { Limited film.now }
+    requires field { (length field.now ≡ size_of film.now) × (at < size_of film.now) }
+    ensures { result ≡ slack film.now field.now at }
 {
     let pressure = field[at];
-    let columns = head.columns as usize;
-    cell_at(diagonals, rights, ups, sources, columns, field, at).slack(pressure)
+    cell_at(film, field, at).slack(pressure)
 }
 
 // Copies weights into 32-bit numbers: the margin loads a cell with them and with ones by the function that takes pressures.
@@ -95,9 +79,7 @@ pub fn widen(weights: &[u16], numbers: &mut [u32])
     requires { length weights.now ≤ length numbers.old }
     ensures { take (length weights.now) numbers.new ≡ weights.now }
 {
-    let mut i = 0;
-    while i < weights.len() {
-        numbers[i] = weights[i] as u32;
-        i += 1;
+    for (i, weight) in weights.iter().enumerate() {
+        numbers[i] = u32::from(*weight);
     }
 }

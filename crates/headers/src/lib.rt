@@ -10,26 +10,20 @@ ghost use Rattle.model.specs.Fields.{field_at};
 ghost use Rattle.model.specs.File.{weightless as weightless_in, carried as carried_of};
 
 use fault::Fault;
-use model::{Refusal, Tested};
+use model::Refusal;
 
 // Refusals 1, 2 and 3: a header at `at`, with that tag and that length, and the whole body after it.
-pub fn header_test(file: &[u8], at: usize, tag: u8, size: usize) -> Tested
+pub fn header_test(file: &[u8], at: usize, tag: u8, size: usize) -> Result<(), Refusal>
     requires { (at ≤ 6000000) × (size ≤ 1000000) }
     ensures { check_of result ≡ field_at file.now at tag size }
 {
     let end = file.len();
-    if end < at + 3 {
-        return Tested::Refused(Refusal {
-            fault: Fault::Truncated,
-            place: end,
-        });
-    }
+    refusals::fail_if(end < at + 3, Fault::Truncated, end)?;
     let from = at + 1;
     let length = words::numbers::first_word(&file[from..]) as usize;
-    let unexpected = refusals::fail_if(file[at] != tag, Fault::Unexpected, at);
-    let wrong_length = refusals::fail_if(length != size, Fault::WrongLength, at);
-    let body = refusals::fail_if(end < at + 3 + size, Fault::Truncated, end);
-    refusals::or_else(unexpected, refusals::or_else(wrong_length, body))
+    refusals::fail_if(file[at] != tag, Fault::Unexpected, at)?;
+    refusals::fail_if(length != size, Fault::WrongLength, at)?;
+    refusals::fail_if(end < at + 3 + size, Fault::Truncated, end)
 }
 
 // Whether a file leaves the weights to the program: the length of field 03, which stands behind shape and ceiling, is 0.

@@ -7,36 +7,14 @@
 
 ghost use Rattle.std.specs.Prelude.{◌≡◌};
 ghost use Rattle.model.specs.Refusals.{check_of};
-ghost use Rattle.model.specs.Film.{film_of};
 ghost use Rattle.line_checks.specs.Line.{row_check_by};
 
-use model::{Head, Tested};
+use model::{Film, Refusal};
 
-pub fn line_tests(
-    head: Head,
-    weights: &[u16],
-    diagonals: &[u32],
-    rights: &[u32],
-    ups: &[u32],
-    sources: &[i64],
-    field: &[u32],
-    length: usize,
-    line: u32,
-) -> Tested
-    ensures { check_of result ≡ row_check_by (film_of head weights.now diagonals.now rights.now ups.now sources.now) field.now length line }
+pub fn line_tests(film: &Film, field: &[u32], length: usize, line: u32) -> Result<(), Refusal>
+    ensures { check_of result ≡ row_check_by film.now field.now length line }
 {
-    let place = refusals::line_test(head, line);
-    let fits = length == head.columns as usize;
-    checks::field_tests(
-        head,
-        weights,
-        diagonals,
-        rights,
-        ups,
-        sources,
-        field,
-        fits,
-        Tested::Fine,
-        place,
-    )
+    let place = refusals::line_test(film.head, line);
+    let fits = length == film.head.columns as usize;
+    checks::field_tests(film, field, fits, Ok(()), place)
 }

@@ -12,29 +12,21 @@ ghost use Rattle.model.specs.Checks.{outside};
 ghost use Rattle.model.specs.File.{wedge_check};
 
 use fault::Fault;
-use model::{Head, Refusal, Tested};
+use model::{Head, Refusal};
 
 // The limits of model/specs/Limits.
 const THICKNESS_LIMIT: u32 = 128;
 
-const WEDGE_LIMIT: u64 = 1000000000;
+const WEDGE_LIMIT: u32 = 1000000000;
 
 // Refusal 6, at the lowest cell's place: the places begin at `from`, `step` apart.
-pub fn weight_test(weights: &[u16], from: usize, step: usize) -> Tested
+pub fn weight_test(weights: &[u16], from: usize, step: usize) -> Result<(), Refusal>
     requires { from + step * length weights.now ≤ 1000000 }
     ensures { check_of result ≡ fail_first (λ i. eqb (get_or weights.now i 0) 0) (length weights.now) 6 (λ i. from + step * i) }
 {
-    let mut i = 0;
-    while i < weights.len() {
-        if weights[i] == 0 {
-            return Tested::Refused(Refusal {
-                fault: Fault::ZeroWeight,
-                place: from + step * i,
-            });
-        }
-        i += 1;
-    }
-    Tested::Fine
+    refusals::first::first_place(weights.len(), from, step, Fault::ZeroWeight, |i| {
+        weights[i] == 0
+    })
 }
 
 // Whether a thickness is not from 1 to 128.
@@ -45,57 +37,40 @@ fn bad_thickness(thickness: u8) -> bool
 }
 
 // Refusal 7, at the lowest place: the thicknesses begin at offset `at`.
-pub fn thicknesses_test(thicknesses: &[u8], at: usize) -> Tested
+pub fn thicknesses_test(thicknesses: &[u8], at: usize) -> Result<(), Refusal>
     requires { at + length thicknesses.now ≤ 6000000 }
     ensures { check_of result ≡ fail_first (λ j. outside (get_or thicknesses.now j 0) 1 thickness_limit) (length thicknesses.now) 7 (λ j. at + j) }
 {
-    let mut i = 0;
-    while i < thicknesses.len() {
-        if bad_thickness(thicknesses[i]) {
-            return Tested::Refused(Refusal {
-                fault: Fault::BadThickness,
-                place: at + i,
-            });
-        }
-        i += 1;
-    }
-    Tested::Fine
+    refusals::first::first_place(thicknesses.len(), at, 1, Fault::BadThickness, |i| {
+        bad_thickness(thicknesses[i])
+    })
 }
 
 // Whether a wedge number is too far from 0, either way.
 fn far_wedge(wedge: i32) -> bool
     ensures { result ≡ ltb wedge_limit (nat_abs wedge) }
 {
-    let wide = wedge as i64;
-    (WEDGE_LIMIT < cell::positive_part(wide)) | (WEDGE_LIMIT < cell::negative_part(wide))
+    WEDGE_LIMIT < wedge.unsigned_abs()
 }
 
 // Refusal 8.
-pub fn wedge_test(wedge: i32, place: usize) -> Tested
+pub fn wedge_test(wedge: i32, place: usize) -> Result<(), Refusal>
     ensures { check_of result ≡ wedge_check wedge place }
 {
     refusals::fail_if(far_wedge(wedge), Fault::BadWedge, place)
 }
 
 // Refusal 12, at the lowest cell.
-pub fn start_test(field: &[u32], ceiling: u32) -> Tested
+pub fn start_test(field: &[u32], ceiling: u32) -> Result<(), Refusal>
     ensures { check_of result ≡ fail_first (λ i. ltb ceiling (get_or field.now i 0)) (length field.now) 12 (λ i. i) }
 {
-    let mut i = 0;
-    while i < field.len() {
-        if ceiling < field[i] {
-            return Tested::Refused(Refusal {
-                fault: Fault::StartAboveCeiling,
-                place: i,
-            });
-        }
-        i += 1;
-    }
-    Tested::Fine
+    refusals::first::first_place(field.len(), 0, 1, Fault::StartAboveCeiling, |i| {
+        ceiling < field[i]
+    })
 }
 
 // Refusal 13, of a cell.
-pub fn cell_test(head: Head, at: usize) -> Tested
+pub fn cell_test(head: Head, at: usize) -> Result<(), Refusal>
     ensures { check_of result ≡ fail_if (leb (head.rows * head.columns) at) 13 0 }
 {
     let n = shape::area(head.rows, head.columns);

@@ -21,7 +21,7 @@ use Rattle.model.specs.Checks.{outside, shape_check, ceiling_check, film_fits, b
 use Rattle.model.specs.Result.{answered, refused, answer_by}
 use Rattle.model.specs.Accepted.{Sized, LimitedCell, Limited, Accepted}
 use Rattle.model.proofs.Lists.{first_miss, first_same}
-use Rattle.model.proofs.Film.{slack_at_most_zero, bounded_cells}
+use Rattle.model.proofs.Slacks.{slack_at_most_zero, bounded_cells}
 
 -- Tests joined by `and` and by `or`.
 pub and_parts : (a b : Bool) → (a && b) ≡ true → (a ≡ true) × (b ≡ true)

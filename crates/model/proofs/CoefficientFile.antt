@@ -20,7 +20,7 @@ use Rattle.model.specs.Checks.{shape_check, ceiling_check, film_fits, coefficien
 use Rattle.model.specs.Accepted.{Sized, Limited, Accepted}
 use Rattle.model.specs.Weighing.{found_weights, search_check, weights_for, held_check, Weights, LeastWeights}
 use Rattle.model.specs.Result.{answered, refused, answer_by}
-use Rattle.model.specs.Bytes.{byte_at, word_at, long_at, word, long, listed}
+use Rattle.model.specs.Bytes.{byte_at, word_at, long_at, long, listed}
 use Rattle.model.specs.Fields.{Field, field, fields_end, bytes_of}
 use Rattle.model.specs.File.{rows_offset, columns_offset, ceiling_offset, weights_offset, cells_in, weightless, fields_check, weight_bytes, weights_check, gauge_check, Bytes, Values, InPlace}
 use Rattle.model.specs.CoefficientFile.{diagonals_field, rights_field, ups_field, sources_field, coefficient_fields, diagonals_offset, rights_offset, ups_offset, sources_offset, coefficient_end, longs_at, signed_quads_at, coefficients_in, coefficient_fields_in, coefficient_file_check, read_coefficients, source_bytes, coefficient_bodies, coefficient_file_of, writer_check, CoefficientValues}

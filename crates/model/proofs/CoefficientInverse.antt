@@ -1,4 +1,5 @@
 -- Reader, writer and converter of coefficient films, as promises of the calls: from nothing but the records that stand in their `ensures`.
+use Rattle.std.specs.Prelude.{Option}
 use mathlib.Core.Path.{◌≡◌, sym, ap, ◌∙◌, subst}
 use mathlib.Core.Bool.{Bool, true, false, not}
 use mathlib.Core.List.{List}
@@ -8,7 +9,6 @@ use borrow.Author.Tests.{eq-eqb, not-false}
 use lib.IntN.{ℤ}
 use lib.ListN.{length, get_or, take}
 use Rattle.model.specs.declared.Head.{Head}
-use Rattle.model.specs.declared.Steps.{Steps}
 use Rattle.model.specs.Refusals.{pass, fail_if}
 use Rattle.model.specs.Gauge.{Gauge}
 use Rattle.model.specs.Film.{Film, film_of, size_of}
@@ -27,6 +27,7 @@ use Rattle.model.proofs.File.{read_values}
 use Rattle.model.proofs.Inverse.{answer_passed, save_gauge, laid, refused_same, read_film_lem}
 use Rattle.model.proofs.CoefficientFile.{coefficients_length, coefficients_written, coefficients_write, coefficients_accepted, coefficients_values, coefficients_placed, placed_coefficients, converted_reads}
 use Rattle.model.proofs.EitherFile.{converted_same}
+use Rattle.model.specs.declared.Factors.{Factors}
 
 -- ---- the reader
 
@@ -136,7 +137,7 @@ coefficients_read_write_placed bytes weights diagonals rights ups sources {weigh
     (rw saved at s.answer_is, subst (λ (l : List ℕ). InPlace f.weights bytes l) (sym file) P, ap read_coefficients file ∙ placed_coefficients bytes f B reads)
 
 -- Read by the reader of gauged films, then converted: the converter does not refuse it, and its file has the same film.
-pub read_convert : (bytes weights thicknesses weights' thicknesses' out out' : List ℕ) (h : Head) (wedge : ℤ) (steps : Steps) (answer : Answer (Unit {0})) → Bytes bytes
+pub read_convert : (bytes weights thicknesses weights' thicknesses' out out' : List ℕ) (h : Head) (wedge : ℤ) (steps : Option Factors) (answer : Answer (Unit {0})) → Bytes bytes
     → Loads bytes weights thicknesses (answered (film h wedge steps)) weights' thicknesses'
     → length out ≡ coefficient_end (cells h.rows h.columns)
     → Gives (convert_call (used h wedge steps weights' thicknesses') out) answer out'

@@ -1,19 +1,18 @@
 -- Demand 3, of every film that passes its tests (`film_claimed`): the theory's promise on lists of steps (`history`), in document 01's terms.
-use mathlib.Core.Path.{◌≡◌, refl, sym, ap, ap₂, ◌∙◌}
-use mathlib.Core.Bool.{Bool, true, not}
-use mathlib.Core.Logic.{◌⊎◌, inl, inr, ⊎_elim}
+use mathlib.Core.Path.{◌≡◌, refl, ap, ap₂, ◌∙◌}
+use mathlib.Core.Bool.{true}
+use mathlib.Core.Logic.{inl, inr, ⊎_elim}
 use mathlib.Core.List.{List, [], ◌∷◌}
-use Prim.Native.Nat.{ℕ, ◌+◌, ◌≤◌}
+use Prim.Native.Nat.{ℕ}
 use native.Mathlib.Omega.{arith}
 use lib.Dec.{eqb}
 use lib.ListN.{length}
-use Rattle.monotone.specs.Field.{total, ◌⊑◌}
 use Rattle.monotone.specs.Rule as theory
 use Rattle.monotone.specs.Linear.{Positive}
 use Rattle.monotone.specs.History.{Each, Promise}
-use Rattle.monotone.proofs.History.{zeros_start, zeros_total, least_or_none, each_map, each_both, history, history_same}
-use Rattle.model.specs.Refusals.{Check, pass, fail, ◌or_else◌, fail_if}
-use Rattle.model.specs.Film.{Film, size_of, system_of, rule, Feasible, Least}
+use Rattle.monotone.proofs.History.{zeros_start, least_or_none, each_map, each_both, history, history_same}
+use Rattle.model.specs.Refusals.{Check, pass, fail, ◌or_else◌}
+use Rattle.model.specs.Film.{Film, size_of, system_of, rule}
 use Rattle.model.specs.Checks.{order_check, line_check, film_check}
 use Rattle.model.specs.Accepted.{Accepted}
 use Rattle.model.specs.Result.{Answer, answered, refused, answer_by, refusal_in}
@@ -22,7 +21,7 @@ use Rattle.model.specs.Run.{RunAnswer, run, run_check}
 use Rattle.model.specs.File.{Bytes}
 use Rattle.model.specs.EitherFile.{read_either}
 use Rattle.model.specs.Demand.{Call, Step, ran, proposed, call_of, calls_of, exit_of, refusal_of, verdict_of, Kept, zero_field, History, ruled, ruled_all, call_check, Holds, Claimed}
-use Rattle.model.proofs.Film.{rule_monotone, feasible_to, feasible_from, least_is, least_exists, least_feasible}
+use Rattle.model.proofs.Slacks.{rule_monotone, feasible_to, feasible_from, least_is, least_exists, least_feasible}
 use Rattle.model.proofs.Checks.{check_passes, accepted_positive}
 use Rattle.model.proofs.Refused.{run_refused, propose_refused}
 use Rattle.model.proofs.History.{step_good}

@@ -8,6 +8,7 @@
 -- A file may leave the weights to the program (document 02, W5): laws say of how many weights they speak, and `read_by` what is read by whether it does. Writing
 -- gives such a file with its weights in place (`weights_placed`).
 -- Film F's file, at the end, shows that not every file is refused.
+use Rattle.std.specs.Prelude.{Option, Some, None}
 use mathlib.Core.Path.{◌≡◌, refl, sym, ap, ap₂, ◌∙◌, subst}
 use mathlib.Core.Bool.{Bool, true, false, cond}
 use mathlib.Core.List.{List, [], ◌∷◌, ◌++◌}
@@ -20,8 +21,6 @@ use lib.ListN.{length, get_or}
 use Rattle.model.specs.Limits.{side_limit, thickness_limit, wedge_limit, weight_limit}
 use Rattle.model.specs.Lists.{tabulate, first_of}
 use Rattle.model.specs.Refusals.{Check, pass, fail, ◌or_else◌}
-use Rattle.model.specs.declared.Steps.{Steps}
-use Rattle.model.specs.declared.Steps.TheVariants as steps
 use Rattle.model.specs.Gauge.{Gauge, weighted_gauge, factors_of, Stepped}
 use Rattle.model.specs.Film.{beside, across, neighbours}
 use Rattle.model.specs.Coefficients.{formed}
@@ -43,6 +42,7 @@ use Rattle.model.proofs.Numbered.{searched_file}
 use Rattle.model.proofs.Weighing.{ones, found_least, found_accepted, none_found, least_weighted}
 use Rattle.model.proofs.Forming.{formed_limited, accepted_gauge}
 use Rattle.model.proofs.GaugeTests.{cells_of, ring_of, gauge_tests, thicknesses_anywhere, wedge_anywhere, steps_anywhere}
+use Rattle.model.specs.declared.Factors.{Factors}
 pub use Rattle.model.proofs.GaugeTests.{NumbersPassed, GaugePassed, gauge_passes, gauge_shape, wedge_low, stepped}
 
 -- ---- the fields and the numbers of a file with so many weights
@@ -154,9 +154,9 @@ gauge_held false l P =
 -- ---- what is written reads back
 
 -- the bodies of a film's fields have their lengths, so that the fields stand in the film's own file
-parts_fit : (s : Steps) → Fit (present gauged_optional (steps_part s ∷ [])) (givens (steps_part s ∷ []))
-parts_fit steps.Absent = tt
-parts_fit (steps.Given f) = (refl, tt)
+parts_fit : (s : Option Factors) → Fit (present gauged_optional (steps_part s ∷ [])) (givens (steps_part s ∷ []))
+parts_fit None = tt
+parts_fit (Some f) = (refl, tt)
 
 bodies_fit : (g : Gauge) → Values g → Fit (gauged_fields g) (bodies g ++ givens (parts g))
 bodies_fit g v =
@@ -168,9 +168,9 @@ unfolding file_of
 file_laid g v = laid (gauged_fields g) (bodies g ++ givens (parts g)) (file_of g) [] 0 (bodies_fit g v) refl (begins_whole (file_of g))
 
 -- steps that are written are those that are found
-steps_back : (s : Steps) → steps_of (steps_part s) ≡ s
-steps_back steps.Absent = refl
-steps_back (steps.Given f) = refl
+steps_back : (s : Option Factors) → steps_of (steps_part s) ≡ s
+steps_back None = refl
+steps_back (Some f) = refl
 
 -- where a film's fields stand in a file that ends with them, the numbers in the file are the film's
 module _ (g : Gauge) (l : List ℕ) (v : Values g) (h : nat_abs g.wedge ≤ wedge_limit) (L : Laid (gauged_fields g) (bodies g ++ givens (parts g)) l 0) (ends : length l ≤ gauged_end g) where
@@ -209,10 +209,10 @@ module _ (g : Gauge) (l : List ℕ) (v : Values g) (h : nat_abs g.wedge ≤ wedg
       grid_steps = rw (opened.rows_are, opened.columns_are) (ap (λ ps. steps_of (get_or ps 0 absent)) found ∙ steps_back g.steps)
 
 -- where the fields stand in a file, and the numbers in it have passed their tests, so has the walk
-steps_walk : (s : Steps) (l : List ℕ) (at : ℕ) → Laid (present gauged_optional (steps_part s ∷ [])) (givens (steps_part s ∷ [])) l at → steps_check s (body at) ≡ pass
+steps_walk : (s : Option Factors) (l : List ℕ) (at : ℕ) → Laid (present gauged_optional (steps_part s ∷ [])) (givens (steps_part s ∷ [])) l at → steps_check s (body at) ≡ pass
     → Passes (present gauged_optional (steps_part s ∷ [])) l at
-steps_walk steps.Absent l at L p = tt
-steps_walk (steps.Given f) l at L p =
+steps_walk None l at L p = tt
+steps_walk (Some f) l at L p =
     let along : byte_at l (body at) ≡ f.along = L.0.inside 0 (body at) (omega arith) (omega arith) in
     let across : byte_at l (body at + 1) ≡ f.across = L.0.inside 1 (body at + 1) (omega arith) refl in
     let same : factors_at l (body at) ≡ f = λ k. record { along = along k; across = across k } in
@@ -293,9 +293,9 @@ fields_bytes (f ∷ fs) (b ∷ bs) n =
     bytes_append (field f.tag f.size b) (bytes_of fs bs)
     (bytes_cons n.0 (bytes_append (word f.size) b (word_code.bytes f.size n.1) n.2)) (fields_bytes fs bs n.3)
 
-steps_narrow : (s : Steps) → Stepped (factors_of s) → Narrow (present gauged_optional (steps_part s ∷ [])) (givens (steps_part s ∷ []))
-steps_narrow steps.Absent h = tt
-steps_narrow (steps.Given f) h =
+steps_narrow : (s : Option Factors) → Stepped (factors_of s) → Narrow (present gauged_optional (steps_part s ∷ [])) (givens (steps_part s ∷ []))
+steps_narrow None h = tt
+steps_narrow (Some f) h =
     (omega arith, omega arith, bytes_cons (omega (arith, h.along_low)) (bytes_cons (omega (arith, h.across_low)) bytes_nil), tt)
 
 -- The file of numbers that pass their tests consists of bytes.

@@ -1,5 +1,6 @@
 -- The tests of a gauged film's numbers, one by one: what passing says of shape, wedge number and steps, and that whether a test passes does not depend on the
 -- place that it names.
+use Rattle.std.specs.Prelude.{Option, Some, None}
 use mathlib.Core.Path.{◌≡◌, refl}
 use mathlib.Core.Bool.{Bool, true}
 use Prim.Native.Nat.{ℕ, ◌+◌, ◌≤◌}
@@ -10,13 +11,12 @@ use lib.IntN.{ℤ, nat_abs}
 use Rattle.model.specs.Limits.{thickness_limit, wedge_limit, step_limit}
 use Rattle.model.specs.Lists.{first_of}
 use Rattle.model.specs.Refusals.{pass, fail_if}
-use Rattle.model.specs.declared.Steps.{Steps}
-use Rattle.model.specs.declared.Steps.TheVariants as steps
 use Rattle.model.specs.Gauge.{Gauge, factors_of, Stepped}
 use Rattle.model.specs.Checks.{outside, shape_check, ceiling_check}
 use Rattle.model.specs.File.{cells, ringed, thicknesses_from, wedge_check, steps_check, rows_offset, columns_offset, ceiling_offset, wedge_offset, steps_offset, gauge_dominance, weights_check, thicknesses_check, gauge_check}
 use Rattle.model.proofs.Checks.{within, or_else_parts, pass_both, fail_if_pass}
 use Rattle.model.proofs.Opening.{Shaped, shape_passes}
+use Rattle.model.specs.declared.Factors.{Factors}
 
 -- the number of a film's cells, and of its thicknesses
 abbrev pub cells_of : Gauge → ℕ
@@ -69,9 +69,9 @@ gauge_shape g e = shape_passes g.rows g.columns rows_offset columns_offset e
 pub wedge_low : {g : Gauge} → NumbersPassed g → nat_abs g.wedge ≤ wedge_limit
 wedge_low p = ltb-false _ _ (fail_if_pass _ 8 _ p.wedge)
 
-pub stepped : (s : Steps) (at : ℕ) → steps_check s at ≡ pass → Stepped (factors_of s)
-stepped steps.Absent at e = record { along_some = omega arith; along_low = omega arith; across_some = omega arith; across_low = omega arith }
-stepped (steps.Given f) at e =
+pub stepped : (s : Option Factors) (at : ℕ) → steps_check s at ≡ pass → Stepped (factors_of s)
+stepped None at e = record { along_some = omega arith; along_low = omega arith; across_some = omega arith; across_low = omega arith }
+stepped (Some f) at e =
     let a = or_else_parts (fail_if (outside f.along 1 step_limit) 15 at) _ e in
     let along = within f.along 1 step_limit (fail_if_pass _ 15 at a.0) in
     let across = within f.across 1 step_limit (fail_if_pass _ 15 (at + 1) a.1) in
@@ -90,8 +90,8 @@ thicknesses_anywhere thickness n at other e =
 pub wedge_anywhere : (wedge : ℤ) (at other : ℕ) → wedge_check wedge at ≡ pass → wedge_check wedge other ≡ pass
 wedge_anywhere wedge at other e = if_anywhere (ltb wedge_limit (nat_abs wedge)) 8 at other e
 
-pub steps_anywhere : (s : Steps) (at other : ℕ) → steps_check s at ≡ pass → steps_check s other ≡ pass
-steps_anywhere steps.Absent at other e = refl
-steps_anywhere (steps.Given f) at other e =
+pub steps_anywhere : (s : Option Factors) (at other : ℕ) → steps_check s at ≡ pass → steps_check s other ≡ pass
+steps_anywhere None at other e = refl
+steps_anywhere (Some f) at other e =
     let a = or_else_parts (fail_if (outside f.along 1 step_limit) 15 at) _ e in
     pass_both (if_anywhere (outside f.along 1 step_limit) 15 at other a.0) (if_anywhere (outside f.across 1 step_limit) 15 (at + 1) (other + 1) a.1)

@@ -1,6 +1,6 @@
 -- Calls as document 01 lists them, from the promise in their `ensures`: each is good by itself, refused or not; Done holds the least field at
 -- or above any start; and a bound on relaxations.
-use mathlib.Core.Path.{◌≡◌, refl, sym, ap, ◌∙◌}
+use mathlib.Core.Path.{◌≡◌, refl, sym}
 use mathlib.Core.Bool.{Bool, true}
 use mathlib.Core.List.{List}
 use Prim.Native.Nat.{ℕ, ◌+◌, ◌-◌, ◌*◌, ◌≤◌}
@@ -16,12 +16,12 @@ use Rattle.model.specs.Refusals.{Check, pass, fail}
 use Rattle.model.specs.Film.{Film, size_of, LeastFrom, rule}
 use Rattle.model.specs.Checks.{order_check, line_check}
 use Rattle.model.specs.Accepted.{Accepted}
-use Rattle.model.specs.Result.{Answer, answered, answer_by, kept, Result, call_by, Gives}
+use Rattle.model.specs.Result.{answered, answer_by, kept, Result, call_by, Gives}
 use Rattle.model.specs.Proposal.{line_start, propose, row_check}
 use Rattle.model.specs.Run.{RunAnswer, done, stopped, over, counted_in, run, run_check, run_call}
 use Rattle.model.specs.Demand.{Step, ran, proposed, exit_of, verdict_of, Kept}
 use Rattle.model.specs.declared.Counts.{Counts}
-use Rattle.model.proofs.Film.{least_from}
+use Rattle.model.proofs.Slacks.{least_from}
 use Rattle.model.proofs.Checks.{FieldPassed, field_passes, accepted_positive}
 use Rattle.model.proofs.Proposal.{propose_rises}
 use Rattle.model.proofs.Run.{run_verdict, run_good, run_visits, run_done_least}

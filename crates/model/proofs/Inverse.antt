@@ -1,4 +1,5 @@
 -- Reader and writer undo each other, as promises of the two calls: from nothing but the records that stand in their `ensures`.
+use Rattle.std.specs.Prelude.{Option}
 use mathlib.Core.Path.{◌≡◌, refl, sym, ap, ◌∙◌, subst}
 use mathlib.Core.Bool.{Bool, true, false, not, ◌&&◌}
 use mathlib.Core.List.{List, [], ◌∷◌, ◌++◌}
@@ -9,7 +10,6 @@ use lib.Dec.{eqb}
 use lib.IntN.{ℤ}
 use lib.ListN.{length, take, drop}
 use Rattle.model.specs.declared.Head.{Head}
-use Rattle.model.specs.declared.Steps.{Steps}
 use Rattle.model.specs.Refusals.{Check, pass, fail, fail_if}
 use Rattle.model.specs.Gauge.{Gauge}
 use Rattle.model.specs.Checks.{shape_check}
@@ -20,6 +20,7 @@ use Rattle.model.proofs.Checks.{or_else_parts, fail_if_pass}
 pub use Rattle.model.proofs.Checks.{answer_passed}
 use Rattle.model.proofs.Opening.{placed_length}
 use Rattle.model.proofs.File.{file_length_lem, written_reads, read_writes, read_values, weights_placed, placed_reads}
+use Rattle.model.specs.declared.Factors.{Factors}
 
 -- the film's own tests, from those of the writer
 pub save_gauge : (g : Gauge) (fits : Bool) → gauge_check g fits ≡ pass → gauge_check g true ≡ pass
@@ -58,7 +59,7 @@ module _ {A : Type 0} where
   laid l before {after} {n} e h = ap (take n) e ∙ ap (λ (k : ℕ). take k (laid_over l before)) (sym h) ∙ take_front l (drop (length l) before)
 
 -- What the reader answers is what the file's bytes say: the film whose numbers it laid over its buffers, ..
-pub read_film_lem : (bytes weights thicknesses weights' thicknesses' : List ℕ) (h : Head) (wedge : ℤ) (steps : Steps) → Bytes bytes
+pub read_film_lem : (bytes weights thicknesses weights' thicknesses' : List ℕ) (h : Head) (wedge : ℤ) (steps : Option Factors) → Bytes bytes
     → Loads bytes weights thicknesses (answered (film h wedge steps)) weights' thicknesses'
     → read_film bytes ≡ answered (used h wedge steps weights' thicknesses')
 read_film_lem bytes weights thicknesses weights' thicknesses' h wedge steps B L =
@@ -96,7 +97,7 @@ read_refusal bytes weights thicknesses weights' thicknesses' number place w t L 
     refused_same (file_check bytes) (load_answer (gauge_in bytes)) (gauge_in bytes) (rw same at L.answer_is)
 
 -- Read, then written: the writer writes the file's own bytes, if it has its weights.
-pub read_write : (bytes weights thicknesses weights' thicknesses' out out' : List ℕ) (h : Head) (wedge : ℤ) (steps : Steps) (answer : Answer (Unit {0})) → Bytes bytes → weightless bytes ≡ false
+pub read_write : (bytes weights thicknesses weights' thicknesses' out out' : List ℕ) (h : Head) (wedge : ℤ) (steps : Option Factors) (answer : Answer (Unit {0})) → Bytes bytes → weightless bytes ≡ false
     → Loads bytes weights thicknesses (answered (film h wedge steps)) weights' thicknesses'
     → length out ≡ length bytes
     → Gives (save_call (used h wedge steps weights' thicknesses') out) answer out'
@@ -113,7 +114,7 @@ read_write bytes weights thicknesses weights' thicknesses' out out' h wedge step
     (rw saved at s.answer_is, (rw saved at s.lent_is) ∙ whole)
 
 -- .. and if it has none, into a slice with room for them too, the file with the found weights in place, which reads to the same film.
-pub read_write_placed : (bytes weights thicknesses weights' thicknesses' out out' : List ℕ) (h : Head) (wedge : ℤ) (steps : Steps) (answer : Answer (Unit {0})) → Bytes bytes → weightless bytes ≡ true
+pub read_write_placed : (bytes weights thicknesses weights' thicknesses' out out' : List ℕ) (h : Head) (wedge : ℤ) (steps : Option Factors) (answer : Answer (Unit {0})) → Bytes bytes → weightless bytes ≡ true
     → Loads bytes weights thicknesses (answered (film h wedge steps)) weights' thicknesses'
     → length out ≡ length bytes + 2 * cells h.rows h.columns
     → Gives (save_call (used h wedge steps weights' thicknesses') out) answer out'

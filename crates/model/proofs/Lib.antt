@@ -1,7 +1,7 @@
 -- Laws of the model.
 pub mod Integers
 pub mod Lists
-pub mod Film
+pub mod Slacks
 pub mod Checks
 pub mod Sides
 pub mod Reynolds

@@ -16,7 +16,7 @@ use Rattle.model.specs.Integers.{at_most_zero}
 use Rattle.model.specs.Film.{Film, size_of, weight_at, slack, rule}
 use Rattle.model.specs.Proposal.{raised_at, raised_by, rises, rise_count, within_ceiling, tight, accepts, decided, propose}
 use Rattle.model.proofs.Lists.{tabulate_length, tabulate_at, all_at}
-use Rattle.model.proofs.Film.{bounded_cells, rule_rises}
+use Rattle.model.proofs.Slacks.{bounded_cells, rule_rises}
 use Rattle.model.specs.Accepted.{Accepted}
 use Rattle.model.proofs.Checks.{and_parts, accepted_dominant}
 

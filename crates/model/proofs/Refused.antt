@@ -8,7 +8,7 @@ use Rattle.model.specs.Refusals.{Check, pass, fail}
 use Rattle.model.specs.Gauge.{Gauge}
 use Rattle.model.specs.Film.{Film}
 use Rattle.model.specs.Coefficients.{formed}
-use Rattle.model.specs.Result.{Answer, refused, answer_by, kept, Result, written, call_by, Gives}
+use Rattle.model.specs.Result.{refused, answer_by, kept, Result, written, call_by, Gives}
 use Rattle.model.specs.FileCalls.{form_check, Forms, save_check, save_call, load_check, Loads}
 use Rattle.model.specs.CoefficientFile.{coefficient_file_of}
 use Rattle.model.specs.CoefficientCalls.{coefficient_load_check, LoadsCoefficients, coefficient_save_check, coefficient_save_call, convert_check, convert_call}

@@ -25,7 +25,7 @@ use Rattle.model.specs.Coefficients.{formed}
 use Rattle.model.specs.Reynolds.{reynolds}
 use Rattle.model.specs.Relaxation.{required}
 use Rattle.model.proofs.Sides.{pull_append}
-use Rattle.model.proofs.Film.{required_slack, rule_monotone, feasible_to, feasible_from, least_feasible}
+use Rattle.model.proofs.Slacks.{required_slack, rule_monotone, feasible_to, feasible_from, least_feasible}
 use Rattle.model.proofs.Reynolds.{reynolds_slack}
 
 -- no cell pulls itself, on any side

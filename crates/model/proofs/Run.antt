@@ -20,11 +20,11 @@ use Rattle.monotone.proofs.History.{good_sweep, call_visits}
 use Rattle.model.specs.Film.{Film, size_of, rule}
 use Rattle.model.specs.Proposal.{line_start}
 use Rattle.model.specs.Estimate.{estimate, estimate_at}
-use Rattle.model.specs.Run.{even_cell, order_of, ordering, Readied, propose_own, propose_lines, readied, RunAnswer, done, stopped, over, counted_in, counts_of, end_of, run}
+use Rattle.model.specs.Run.{even_cell, order_of, ordering, Readied, propose_own, propose_lines, readied, RunAnswer, done, stopped, over, counted_in, end_of, run}
 use Rattle.model.specs.declared.Counts.{Counts}
 use Rattle.model.proofs.Lists.{tabulate_length}
 use Rattle.model.specs.Accepted.{Accepted}
-use Rattle.model.proofs.Film.{rule_monotone}
+use Rattle.model.proofs.Slacks.{rule_monotone}
 use Rattle.model.proofs.Checks.{accepted_positive}
 use Rattle.model.proofs.Proposal.{propose_rises}
 

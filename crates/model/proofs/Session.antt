@@ -1,10 +1,9 @@
 -- Demand 3 of the calls themselves: from nothing but the records that stand in their `ensures`.
 use mathlib.Core.Path.{◌≡◌, sym, ap, ◌∙◌, subst}
-use mathlib.Core.Bool.{Bool, true, ◌&&◌}
+use mathlib.Core.Bool.{true}
 use mathlib.Core.List.{List}
 use Prim.Native.Nat.{ℕ, ◌*◌}
 use borrow.Author.Tests.{eq-eqb}
-use lib.Dec.{eqb}
 use lib.IntN.{ℤ, pos}
 use lib.ListN.{length, take, replicate, length-replicate}
 use Rattle.monotone.specs.History.{Verdict, Each}
@@ -12,7 +11,7 @@ use Rattle.model.specs.Refusals.{pass}
 use Rattle.model.specs.Gauge.{Gauge}
 use Rattle.model.specs.Film.{Film, size_of, film_of}
 use Rattle.model.specs.Coefficients.{formed}
-use Rattle.model.specs.Result.{Answer, answered}
+use Rattle.model.specs.Result.{answered}
 use Rattle.model.specs.File.{gauge_in, file_check, read_film, gauge_check, Bytes, Values}
 use Rattle.model.specs.FileCalls.{head_of, form_check, load_answer, load_check, laid_over, Loads, used}
 use Rattle.model.specs.CoefficientFile.{film_in, coefficient_file_check, read_coefficients}

@@ -1,4 +1,5 @@
 -- A cell by its row and column, which run from 1: its index, and its pull side by side, each link times what lies beyond it.
+use Rattle.std.specs.Prelude.{None}
 use mathlib.Core.Path.{◌≡◌, refl, sym, ap, ap₂, ◌∙◌}
 use mathlib.Core.Logic.{◌↔◌}
 use mathlib.Core.Bool.{Bool, true, false, cond, ◌&&◌, false≢true}
@@ -13,13 +14,12 @@ use lib.IntN.{pos}
 use lib.ListN.{get_or}
 use Rattle.monotone.specs.Links.{pull}
 use Rattle.model.specs.Limits.{side_limit}
-use Rattle.model.specs.declared.Steps.TheVariants as steps
 use Rattle.model.specs.Gauge.{Gauge}
 use Rattle.model.specs.Integers.{at_most_zero}
 use Rattle.model.specs.Film.{Film, link_if, beside, across, neighbours, pull_of, diagonal_at, right_at, up_at, slack_of}
 use Rattle.model.specs.Checks.{not_dominant}
 use Rattle.model.specs.Reynolds.{pressure_at}
-use Rattle.model.proofs.Film.{slack_at_most_zero}
+use Rattle.model.proofs.Slacks.{slack_at_most_zero}
 use Rattle.model.proofs.Checks.{and_parts}
 
 -- ---- cells and their indices
@@ -106,7 +106,7 @@ pull_append (l ∷ ls) ms p = omega (arith, pull_append ls ms p)
 -- a film's grid, as `pressure_at` takes it: of a film's numbers only rows and columns count
 abbrev pub grid_of : Film → Gauge
 grid_of f =
-    record { rows = f.rows; columns = f.columns; ceiling = f.ceiling; weights = f.weights; thicknesses = []; wedge = pos 0; steps = steps.Absent }
+    record { rows = f.rows; columns = f.columns; ceiling = f.ceiling; weights = f.weights; thicknesses = []; wedge = pos 0; steps = None }
 
 -- (r, c) is a cell of the film
 abbrev pub Inside : Film → ℕ → ℕ → Type 0

@@ -11,7 +11,6 @@ use borrow.Author.Tests.{leb-false, lt-ltb, le-ltb, le-leb, lt-leb}
 use lib.Dec.{leb, ltb}
 use lib.IntN.{ℤ, pos, negsuc, ◌-ℤ◌}
 use lib.ListN.{length, get_or, replicate, get_or-replicate, get_or-eq_default}
-use Rattle.monotone.specs.Rule as theory
 use Rattle.monotone.specs.Linear.{Positive}
 use Rattle.monotone.specs.Outcome.{Outcome}
 use Rattle.monotone.specs.Sweep as sweeps
@@ -31,7 +30,7 @@ use Rattle.model.specs.Weighing.{weighing, search_budget, weight_search, found_w
 use Rattle.model.specs.declared.Counts.{Counts}
 use Rattle.model.proofs.Integers.{by_order, sub_source, sub_sub, at_most_zero_sub}
 use Rattle.model.proofs.Lists.{tabulate_length, tabulate_at}
-use Rattle.model.proofs.Film.{slack_negative, slack_at_most_zero, required_slack, bounded_cells, rule_monotone}
+use Rattle.model.proofs.Slacks.{slack_negative, slack_at_most_zero, required_slack, bounded_cells, rule_monotone}
 use Rattle.model.proofs.Run.{order_permutes}
 
 -- weights that stand for those to be found

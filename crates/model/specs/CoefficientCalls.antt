@@ -5,20 +5,13 @@ use Rattle.model.specs.Gauge.{Gauge}
 use Rattle.model.specs.Film.{Film, film_of, size_of}
 use Rattle.model.specs.Coefficients.{formed}
 use Rattle.model.specs.Checks.{film_fits}
-use Rattle.model.specs.Result.{Answer, answered, refusal, answer_by, kept, Result, written, call_by}
+use Rattle.model.specs.Result.{Answer, answer_by, kept, Result, written, call_by}
 use Rattle.model.specs.File.{cells, gauge_check}
 use Rattle.model.specs.FileCalls.{gauge_fits, laid_over}
 use Rattle.model.specs.CoefficientFile.{coefficient_end, film_in, coefficient_file_check, coefficient_file_of, writer_check}
 use Rattle.model.specs.declared.Head.{Head}
-use Rattle.model.specs.declared.LoadedCoefficients.{LoadedCoefficients}
-use Rattle.model.specs.declared.LoadedCoefficients.TheVariants as loadeds
 
--- Reading: five lent buffers of 1,024 numbers; places beyond those used keep their contents.
-abbrev pub coefficients_answer_of : LoadedCoefficients → Answer Head
-coefficients_answer_of (loadeds.Film h) = answered h
-coefficients_answer_of (loadeds.Refused r) = refusal r
-
--- what is answered of a film: shape and ceiling
+-- Reading: five lent buffers of 1,024 numbers; places beyond those used keep their contents. What is answered of a film: shape and ceiling.
 abbrev pub film_head : Film → Head
 film_head f = record { rows = f.rows; columns = f.columns; ceiling = f.ceiling }
 

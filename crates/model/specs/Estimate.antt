@@ -8,11 +8,9 @@ use Rattle.model.specs.Limits.{estimate_limit}
 use Rattle.model.specs.Lists.{tabulate}
 use Rattle.model.specs.Integers.{negative}
 use Rattle.model.specs.Film.{Film, across, diagonal_at, right_at, source_at, weight_at, slack}
-use Rattle.model.specs.Result.{Answer, answered, refusal, Result, written, call_by}
+use Rattle.model.specs.Result.{Answer, Result, written, call_by}
 use Rattle.model.specs.Proposal.{line_start, row_check}
 use Rattle.model.specs.Margin.{margin}
-use Rattle.model.specs.declared.Estimated.{Estimated}
-use Rattle.model.specs.declared.Estimated.TheVariants as answers
 
 abbrev pub float_of : ℕ → Float
 float_of n = of_int binary64 (pos n)
@@ -92,10 +90,6 @@ module _ (f : Film) (p : List ℕ) (start : ℕ) where
 
   unfoldable pub estimate : List ℕ
   estimate = tabulate f.columns estimate_at
-
-abbrev pub estimate_answer_of : Estimated → Answer (Unit {0})
-estimate_answer_of answers.Written = answered tt
-estimate_answer_of (answers.Refused r) = refusal r
 
 -- the call that writes the estimate of a line into a slice of C numbers
 abbrev pub estimate_call : Film → ℕ → List ℕ → List ℕ → Result (Answer (Unit {0}))

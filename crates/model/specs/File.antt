@@ -1,5 +1,5 @@
 -- Document 01, "The film file", and document 02, W2 and W5: the fields of a film's file, what the reader refuses and in what order, and the file of a film.
-use Rattle.std.specs.Prelude.{◌≡◌, Bool, not, cond, List, [], ◌∷◌, ◌++◌, ℕ, ◌+◌, ◌*◌, ◌<◌, ltb, eqb, ℤ, nat_abs, length, get_or}
+use Rattle.std.specs.Prelude.{◌≡◌, Bool, not, cond, List, [], ◌∷◌, ◌++◌, ℕ, ◌+◌, ◌*◌, ◌<◌, ltb, eqb, ℤ, nat_abs, length, get_or, Option, Some, None}
 use Rattle.model.specs.Limits.{thickness_limit, wedge_limit, step_limit}
 use Rattle.model.specs.Lists.{tabulate}
 use Rattle.model.specs.Refusals.{Check, pass, ◌or_else◌, fail_if, fail_first}
@@ -11,8 +11,6 @@ use Rattle.model.specs.Result.{Answer, answer_by}
 use Rattle.model.specs.Bytes.{byte_at, word_at, long_at, word, long, signed_of, unsigned_of, listed}
 use Rattle.model.specs.Fields.{Field, body, fields_end, walk, unexpected_at, field, bytes_of, Optional, absent, given, parts_in, present, givens, fields_in}
 use Rattle.model.specs.declared.Factors.{Factors}
-use Rattle.model.specs.declared.Steps.{Steps}
-use Rattle.model.specs.declared.Steps.TheVariants as steps
 
 -- the number of cells, and of thicknesses with the boundary ring
 abbrev pub cells : ℕ → ℕ → ℕ
@@ -35,9 +33,9 @@ wedge_check wedge place = fail_if (ltb wedge_limit (nat_abs wedge)) 8 place
 abbrev pub factors_from : Factors → ℕ → Check
 factors_from f at = fail_if (outside f.along 1 step_limit) 15 at or_else fail_if (outside f.across 1 step_limit) 15 (at + 1)
 
-abbrev pub steps_check : Steps → ℕ → Check
-steps_check steps.Absent at = pass
-steps_check (steps.Given f) at = factors_from f at
+abbrev pub steps_check : Option Factors → ℕ → Check
+steps_check None at = pass
+steps_check (Some f) at = factors_from f at
 
 -- The fields, each with the test of the values that stand in its body.
 abbrev pub shape_field : Field
@@ -120,13 +118,13 @@ abbrev pub carried_in : List ℕ → ℕ
 carried_in bytes = carried bytes (cells_in bytes)
 
 -- a film's steps as the body of an optional field, and back
-abbrev pub steps_part : Steps → Optional (List ℕ)
-steps_part steps.Absent = absent
-steps_part (steps.Given f) = given (f.along ∷ f.across ∷ [])
+abbrev pub steps_part : Option Factors → Optional (List ℕ)
+steps_part None = absent
+steps_part (Some f) = given (f.along ∷ f.across ∷ [])
 
-abbrev pub steps_of : Optional (List ℕ) → Steps
-steps_of absent = steps.Absent
-steps_of (given bytes) = steps.Given (factors_at bytes 0)
+abbrev pub steps_of : Optional (List ℕ) → Option Factors
+steps_of absent = None
+steps_of (given bytes) = Some (factors_at bytes 0)
 
 -- what a file has of the optional fields
 abbrev pub gauged_parts : List ℕ → List (Optional (List ℕ))

@@ -1,23 +1,16 @@
 -- Document 01, "The film file" and "Coefficients": the calls that form coefficients, write a film file and read one.
-use Rattle.std.specs.Prelude.{◌≡◌, Bool, not, ◌&&◌, List, [], ◌++◌, ℕ, ◌+◌, eqb, ℤ, pos, length, take, drop}
+use Rattle.std.specs.Prelude.{◌≡◌, Bool, not, ◌&&◌, List, [], ◌++◌, ℕ, eqb, ℤ, pos, length, take, drop, Option, None}
 use Rattle.model.specs.Refusals.{Check, ◌or_else◌, fail_if}
 use Rattle.model.specs.Gauge.{Gauge}
-use Rattle.model.specs.Film.{Film}
 use Rattle.model.specs.Coefficients.{formed}
-use Rattle.model.specs.Result.{Answer, answered, refusal, answer_by, kept, Result, written, call_by}
+use Rattle.model.specs.Result.{Answer, answered, answer_by, kept, Result, written, call_by}
 use Rattle.model.specs.File.{cells, ringed, gauge_in, gauged_end, gauge_check, file_check, file_of}
 use Rattle.model.specs.declared.Head.{Head}
-use Rattle.model.specs.declared.Steps.{Steps}
-use Rattle.model.specs.declared.Steps.TheVariants as steps
-use Rattle.model.specs.declared.Formed.{Formed}
-use Rattle.model.specs.declared.Formed.TheVariants as formeds
-use Rattle.model.specs.declared.Saved.{Saved}
-use Rattle.model.specs.declared.Saved.TheVariants as saveds
-use Rattle.model.specs.declared.Loaded.{Loaded}
-use Rattle.model.specs.declared.Loaded.TheVariants as loadeds
+use Rattle.model.specs.declared.Factors.{Factors}
+use Rattle.model.specs.declared.Numbers.{Numbers}
 
 -- a film's numbers as a call is lent them
-abbrev pub gauge_of : Head → List ℕ → List ℕ → ℤ → Steps → Gauge
+abbrev pub gauge_of : Head → List ℕ → List ℕ → ℤ → Option Factors → Gauge
 gauge_of h weights thicknesses wedge steps =
     record {
       rows = h.rows;
@@ -31,21 +24,12 @@ gauge_of h weights thicknesses wedge steps =
 
 -- its shape and thicknesses alone, where nothing else counts
 abbrev pub bare_of : Head → List ℕ → Gauge
-bare_of h thicknesses = gauge_of h [] thicknesses (pos 0) steps.Absent
+bare_of h thicknesses = gauge_of h [] thicknesses (pos 0) None
 
 -- the slices of a film's numbers have exactly their lengths
 abbrev pub gauge_fits : Gauge → Bool
 gauge_fits g =
     eqb (length g.weights) (cells g.rows g.columns) && eqb (length g.thicknesses) (ringed g.rows g.columns)
-
--- forming and writing answer nothing but that they have written
-abbrev pub form_answer_of : Formed → Answer (Unit {0})
-form_answer_of formeds.Written = answered tt
-form_answer_of (formeds.Refused r) = refusal r
-
-abbrev pub save_answer_of : Saved → Answer (Unit {0})
-save_answer_of saveds.Written = answered tt
-save_answer_of (saveds.Refused r) = refusal r
 
 -- Forming coefficients: four lent slices of exactly N.
 abbrev pub form_check : Gauge → List ℕ → List ℕ → List ℕ → List ℤ → Check
@@ -73,11 +57,10 @@ save_call g out = call_by (save_check g out) (written (file_of g)) out
 
 -- Reading: lent buffers of 1,024 weights and 1,156 thicknesses; places beyond those used keep their contents.
 pub data LoadAnswer : Type 0 where
-  film : Head → ℤ → Steps → LoadAnswer
+  film : Head → ℤ → Option Factors → LoadAnswer
 
-abbrev pub load_answer_of : Loaded → Answer LoadAnswer
-load_answer_of (loadeds.Film h wedge steps) = answered (film h wedge steps)
-load_answer_of (loadeds.Refused r) = refusal r
+abbrev pub loaded_of : Numbers → LoadAnswer
+loaded_of n = film n.head n.wedge n.steps
 
 -- what is answered of a film's numbers: shape, ceiling, wedge and steps
 abbrev pub head_of : Gauge → Head
@@ -106,6 +89,6 @@ pub record ReadsBack (g : Gauge) (weights thicknesses : List ℕ) (answer : Answ
   pub thicknesses_are : thicknesses' ≡ laid_over g.thicknesses thicknesses
 
 -- the film whose numbers stand at the starts of a reader's buffers
-abbrev pub used : Head → ℤ → Steps → List ℕ → List ℕ → Gauge
+abbrev pub used : Head → ℤ → Option Factors → List ℕ → List ℕ → Gauge
 used h wedge steps weights thicknesses =
     gauge_of h (take (cells h.rows h.columns) weights) (take (ringed h.rows h.columns) thicknesses) wedge steps

@@ -1,5 +1,5 @@
 -- Document 01, "Film F at its edges": the film, and its starred lines as one statement.
-use Rattle.std.specs.Prelude.{◌≡◌, true, false, List, [], ◌∷◌, ◌++◌, ℕ, ℤ, pos, negsuc, take, drop, set}
+use Rattle.std.specs.Prelude.{◌≡◌, true, false, List, [], ◌∷◌, ◌++◌, ℕ, ℤ, pos, negsuc, take, drop, set, Option, Some, None}
 use Rattle.model.specs.Gauge.{Gauge}
 use Rattle.model.specs.Film.{Film, slack}
 use Rattle.model.specs.Coefficients.{formed}
@@ -12,8 +12,7 @@ use Rattle.model.specs.Weighing.{weight_search}
 use Rattle.model.specs.File.{columns_offset, read_film, file_of}
 use Rattle.model.specs.CoefficientFile.{read_coefficients, coefficient_file_of}
 use Rattle.model.specs.declared.Counts.{Counts}
-use Rattle.model.specs.declared.Steps.{Steps}
-use Rattle.model.specs.declared.Steps.TheVariants as steps
+use Rattle.model.specs.declared.Factors.{Factors}
 
 -- 1 row, 2 columns, weights 1 1, boundary rows all 1, middle row 3 2 1 1
 abbrev pub gauge_f : ℕ → ℤ → Gauge
@@ -25,7 +24,7 @@ gauge_f ceiling wedge =
       weights = 1 ∷ 1 ∷ [];
       thicknesses = 1 ∷ 1 ∷ 1 ∷ 1 ∷ 3 ∷ 2 ∷ 1 ∷ 1 ∷ 1 ∷ 1 ∷ 1 ∷ 1 ∷ [];
       wedge = wedge;
-      steps = steps.Absent;
+      steps = None;
     }
 
 abbrev pub film_f : Film
@@ -145,7 +144,7 @@ pub record CoefficientEdges : Type 0 where
 abbrev pub step_bytes : ℕ → ℕ → List ℕ
 step_bytes along across = 0x0a ∷ 0x00 ∷ 0x02 ∷ along ∷ across ∷ []
 
-abbrev pub stepped_f : Steps → Gauge
+abbrev pub stepped_f : Option Factors → Gauge
 stepped_f grid =
     record {
       rows = 1;
@@ -157,8 +156,8 @@ stepped_f grid =
       steps = grid;
     }
 
-abbrev pub steps_on : ℕ → ℕ → Steps
-steps_on along across = steps.Given (record { along = along; across = across })
+abbrev pub steps_on : ℕ → ℕ → Option Factors
+steps_on along across = Some (record { along = along; across = across })
 
 -- Its coefficients: links within the row are 125, 27 and 8, times 2, those to the ring rows 27 of the first cell and 8 of the second, times 3. Its file, and
 -- files that differ: the tag is looked at before the header, 15 stands before stray, and what was given as 1 1 is written so.

@@ -1,9 +1,7 @@
 -- Document 01, "The film file", and document 02, W2: the numbers of a gauged film.
-use Rattle.std.specs.Prelude.{List, ℕ, ◌+◌, ◌*◌, ◌≤◌, ℤ, get_or}
+use Rattle.std.specs.Prelude.{List, ℕ, ◌+◌, ◌*◌, ◌≤◌, ℤ, get_or, Option, Some, None}
 use Rattle.model.specs.Limits.{step_limit}
 use Rattle.model.specs.declared.Factors.{Factors}
-use Rattle.model.specs.declared.Steps.{Steps}
-use Rattle.model.specs.declared.Steps.TheVariants as steps
 
 -- thicknesses by rows 0 to R + 1 and columns 0 to C + 1: the boundary ring included
 pub record Gauge : Type 0 where
@@ -13,7 +11,7 @@ pub record Gauge : Type 0 where
   pub weights : List ℕ
   pub thicknesses : List ℕ
   pub wedge : ℤ
-  pub steps : Steps
+  pub steps : Option Factors
 
 -- a film's numbers with other weights
 abbrev pub weighted_gauge : Gauge → List ℕ → Gauge
@@ -32,13 +30,9 @@ abbrev pub thickness_at : Gauge → ℕ → ℕ → ℕ
 thickness_at g r c = get_or g.thicknesses (r * (g.columns + 2) + c) 0
 
 -- what links within a row and links between rows are multiplied by: "A film without the field has 1 and 1"
-abbrev pub factors_of : Steps → Factors
-factors_of steps.Absent = record { along = 1; across = 1 }
-factors_of (steps.Given f) = f
-
--- a film's steps, where it has a field with these factors
-abbrev pub by_factors : Factors → Steps
-by_factors f = steps.Given f
+abbrev pub factors_of : Option Factors → Factors
+factors_of None = record { along = 1; across = 1 }
+factors_of (Some f) = f
 
 -- factors within their limits
 pub record Stepped (f : Factors) : Type 0 where

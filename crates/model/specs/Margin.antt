@@ -6,9 +6,7 @@ use Rattle.model.specs.Lists.{greatest}
 use Rattle.model.specs.Integers.{positive_part}
 use Rattle.model.specs.Film.{Film, size_of, neighbours, dominance}
 use Rattle.model.specs.Checks.{film_check}
-use Rattle.model.specs.Result.{Answer, answered, refusal, answer_by}
-use Rattle.model.specs.declared.Margin.{Margin}
-use Rattle.model.specs.declared.Margin.TheVariants as answers
+use Rattle.model.specs.Result.{Answer, answer_by}
 
 -- the sum of a cell's inside links: those to cells of the grid
 abbrev pub inside : Film → ℕ → ℕ
@@ -20,10 +18,6 @@ margin_at f i = required_of (positive_part (dominance f i)) 0 (inside f i)
 
 unfoldable pub margin : Film → ℕ
 margin f = greatest (margin_at f) (size_of f)
-
-abbrev pub margin_answer_of : Margin → Answer ℕ
-margin_answer_of (answers.Is k) = answered k
-margin_answer_of (answers.Refused r) = refusal r
 
 -- the call that tells a film's margin
 abbrev pub margin_call : Film → Answer ℕ

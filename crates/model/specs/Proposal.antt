@@ -1,13 +1,11 @@
 -- Document 01, "A line offer", first paragraph: the exact test of a line proposal.
-use Rattle.std.specs.Prelude.{◌≡◌, Bool, true, not, cond, ◌&&◌, ◌||◌, List, ℕ, ◌+◌, ◌-◌, ◌*◌, ◌≤◌, ◌<◌, max, leb, ltb, eqb, length, get_or}
+use Rattle.std.specs.Prelude.{◌≡◌, Bool, true, not, cond, ◌&&◌, ◌||◌, List, ℕ, ◌+◌, ◌-◌, ◌*◌, ◌≤◌, ◌<◌, max, leb, ltb, eqb, length, get_or, Option, Some, None}
 use Rattle.model.specs.Lists.{tabulate, count_below, all_below}
 use Rattle.model.specs.Integers.{at_most_zero}
 use Rattle.model.specs.Refusals.{Check, pass}
 use Rattle.model.specs.Film.{Film, size_of, slack}
 use Rattle.model.specs.Checks.{field_check, line_check}
-use Rattle.model.specs.Result.{Answer, answered, refusal, Result, call_by}
-use Rattle.model.specs.declared.Proposed.{Proposed}
-use Rattle.model.specs.declared.Proposed.TheVariants as answers
+use Rattle.model.specs.Result.{Answer, Result, call_by}
 
 -- the first cell of a line, which is counted from 1
 abbrev pub line_start : Film → ℕ → ℕ
@@ -51,10 +49,9 @@ pub data ProposalAnswer : Type 0 where
   accepted : ℕ → ProposalAnswer
   rejected : ProposalAnswer
 
-abbrev pub proposal_answer_of : Proposed → Answer ProposalAnswer
-proposal_answer_of (answers.Accepted cells) = answered (accepted cells)
-proposal_answer_of answers.Rejected = answered rejected
-proposal_answer_of (answers.Refused r) = refusal r
+abbrev pub proposed_of : Option ℕ → ProposalAnswer
+proposed_of (Some cells) = accepted cells
+proposed_of None = rejected
 
 -- the new field q in place of p, or p
 abbrev pub decided : Bool → Film → ℕ → List ℕ → List ℕ → Result ProposalAnswer

@@ -1,18 +1,18 @@
 -- Document 01, "Refusals": their places, and the order of tests. Their numbers are in crate `fault`.
-use Rattle.std.specs.Prelude.{◌≡◌, Bool, cond, ℕ, ◌<◌, ltb}
+use Rattle.std.specs.Prelude.{◌≡◌, Bool, cond, ℕ, ◌<◌, ltb, Result, Ok, Err}
 use Rattle.model.specs.Lists.{first_of}
 use Rattle.fault.specs.Numbers.{number_of}
-use Rattle.model.specs.declared.Tested.{Tested}
-use Rattle.model.specs.declared.Tested.TheVariants as tests
+use Rattle.model.specs.declared.Refusal.{Refusal}
 
 -- a test of an input passes, or fails with a refusal's number and place
 pub data Check : Type 0 where
   pass : Check
   fail : ℕ → ℕ → Check
 
-abbrev pub check_of : Tested → Check
-check_of tests.Fine = pass
-check_of (tests.Refused r) = fail (number_of r.fault) r.place
+-- as the code has it
+abbrev pub check_of : {A : Type 0} → Result A Refusal → Check
+check_of (Ok a) = pass
+check_of (Err r) = fail (number_of r.fault) r.place
 
 infixr 40 ◌or_else◌
 -- the first that fails wins

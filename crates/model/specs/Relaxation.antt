@@ -6,11 +6,9 @@ use Rattle.model.specs.Integers.{positive_part, negative_part}
 use Rattle.model.specs.Refusals.{Check, pass}
 use Rattle.model.specs.Film.{Film, diagonal_at, source_at, pull_of, slack}
 use Rattle.model.specs.Checks.{field_check, cell_check}
-use Rattle.model.specs.Result.{Answer, answered, refusal, answer_by, Result, call_by}
+use Rattle.model.specs.Result.{Answer, answer_by, Result, call_by}
 use Rattle.model.specs.declared.Relaxed.{Relaxed}
 use Rattle.model.specs.declared.Relaxed.TheVariants as relaxed
-use Rattle.model.specs.declared.Slack.{Slack}
-use Rattle.model.specs.declared.Slack.TheVariants as slacks
 
 -- document 01: the need of a cell, the least whole number, not below 0, that makes its slack at least 0, the others fixed
 abbrev pub required_for : ℕ → ℕ → ℤ → ℕ
@@ -25,11 +23,10 @@ pub data RelaxAnswer : Type 0 where
   raised : ℕ → RelaxAnswer
   over : ℕ → RelaxAnswer
 
-abbrev pub relax_answer_of : Relaxed → Answer RelaxAnswer
-relax_answer_of relaxed.Quiet = answered quiet
-relax_answer_of (relaxed.Raised pressure) = answered (raised pressure)
-relax_answer_of (relaxed.Over cell) = answered (over cell)
-relax_answer_of (relaxed.Refused r) = refusal r
+abbrev pub relaxed_of : Relaxed → RelaxAnswer
+relaxed_of relaxed.Quiet = quiet
+relaxed_of (relaxed.Raised pressure) = raised pressure
+relaxed_of (relaxed.Over cell) = over cell
 
 -- a relaxation of cell i of the field p, by what it finds
 abbrev pub relaxed_to : theory.Relaxation → ℕ → List ℕ → ℕ → Result RelaxAnswer
@@ -49,9 +46,5 @@ abbrev pub relax_call : Film → List ℕ → ℕ → Result (Answer RelaxAnswer
 relax_call f p i = call_by (point_check f p i) (relax f p i) p
 
 -- the call that tells the slack of cell i
-abbrev pub slack_answer_of : Slack → Answer ℤ
-slack_answer_of (slacks.Is z) = answered z
-slack_answer_of (slacks.Refused r) = refusal r
-
 abbrev pub slack_call : Film → List ℕ → ℕ → Answer ℤ
 slack_call f p i = answer_by (point_check f p i) (slack f p i)

@@ -1,5 +1,5 @@
 -- What a call gives: its answer or its refusal, and what it leaves in a slice that it was lent to write.
-use Rattle.std.specs.Prelude.{◌≡◌, List, ℕ}
+use Rattle.std.specs.Prelude.{◌≡◌, List, ℕ, Result as Outcome, Ok, Err}
 use Rattle.fault.specs.Numbers.{number_of}
 use Rattle.model.specs.Refusals.{Check, pass, fail}
 use Rattle.model.specs.declared.Refusal.{Refusal}
@@ -9,9 +9,13 @@ pub data Answer (A : Type 0) : Type 0 where
   answered : A → Answer A
   refused : ℕ → ℕ → Answer A
 
--- a refusal as the code has it
-abbrev pub refusal : {A : Type 0} → Refusal → Answer A
-refusal r = refused (number_of r.fault) r.place
+-- as the code has it: its value read by `f`, or a refusal
+abbrev pub answer_as : {A B : Type 0} → (A → B) → Outcome A Refusal → Answer B
+answer_as f (Ok a) = answered (f a)
+answer_as f (Err r) = refused (number_of r.fault) r.place
+
+abbrev pub answer_of : {A : Type 0} → Outcome A Refusal → Answer A
+answer_of = answer_as (λ a. a)
 
 -- a call's answer by what its tests find, and whether it was refused, by its answer
 abbrev pub answer_by : {A : Type 0} → Check → A → Answer A

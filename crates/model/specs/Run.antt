@@ -5,7 +5,7 @@ use Rattle.monotone.specs.Sweep as theory
 use Rattle.model.specs.Refusals.{Check, pass}
 use Rattle.model.specs.Film.{Film, size_of, rule}
 use Rattle.model.specs.Checks.{field_check, order_check}
-use Rattle.model.specs.Result.{Answer, answered, refusal, Result, call_by}
+use Rattle.model.specs.Result.{Answer, Result, call_by}
 use Rattle.model.specs.Proposal.{ProposalAnswer, propose, line_start}
 use Rattle.model.specs.Estimate.{estimate}
 use Rattle.model.specs.declared.Counts.{Counts}
@@ -59,11 +59,10 @@ pub data RunAnswer : Type 0 where
   stopped : Counts → RunAnswer
   over : ℕ → Counts → RunAnswer
 
-abbrev pub run_answer_of : Ran → Answer RunAnswer
-run_answer_of (answers.Done c) = answered (done c)
-run_answer_of (answers.Stopped c) = answered (stopped c)
-run_answer_of (answers.Over cell c) = answered (over cell c)
-run_answer_of (answers.Refused r) = refusal r
+abbrev pub ran_of : Ran → RunAnswer
+ran_of (answers.Done c) = done c
+ran_of (answers.Stopped c) = stopped c
+ran_of (answers.Over cell c) = over cell c
 
 -- what it has counted: relaxations, raises that they made, and cells raised by proposals
 abbrev pub counted_in : RunAnswer → Counts

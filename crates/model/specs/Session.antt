@@ -1,19 +1,19 @@
 -- Document 01, demand 3, of the calls themselves: a film as it is lent to runs and proposals, after its file was read into lent buffers and, if it
 -- is a gauged film's, its coefficients were formed into lent slices. All that is said of these calls is what stands in their `ensures`.
-use Rattle.std.specs.Prelude.{◌≡◌, List, ℕ, ◌*◌, ℤ, length, take}
+use Rattle.std.specs.Prelude.{◌≡◌, List, ℕ, ◌*◌, ℤ, length, take, Option}
 use Rattle.model.specs.Film.{Film, film_of}
 use Rattle.model.specs.Result.{Answer, answered}
 use Rattle.model.specs.FileCalls.{used, film, Loads, Forms}
 use Rattle.model.specs.CoefficientCalls.{used_film, LoadsCoefficients}
 use Rattle.model.specs.declared.Head.{Head}
-use Rattle.model.specs.declared.Steps.{Steps}
+use Rattle.model.specs.declared.Factors.{Factors}
 
 -- a gauged film, by `read` and `form`
 pub record GaugedSession (bytes : List ℕ) (f : Film) : Type 0 where
   -- the file was read: what the reader answered, and its buffers before and after
   pub head : Head
   pub wedge : ℤ
-  pub steps : Steps
+  pub steps : Option Factors
   pub weights : List ℕ
   pub thicknesses : List ℕ
   pub weights' : List ℕ

@@ -9,6 +9,7 @@
 #![tactic(auto)]
 
 use fault::Fault;
+use std::marker::Model;
 
 // A film's shape and ceiling.
 #[derive(Clone, Copy)]
@@ -18,6 +19,51 @@ pub struct Head {
     pub ceiling: u32,
 }
 
+// A film as coefficients, as a call is lent it: in contracts it is model/specs/Film's.
+#[derive(Drop)]
+pub struct Film<'a> {
+    pub head: Head,
+    pub weights: &'a [u16],
+    pub diagonals: &'a [u32],
+    pub rights: &'a [u32],
+    pub ups: &'a [u32],
+    pub sources: &'a [i64],
+}
+
+impl<'a> Model for Film<'a> {
+    ghost use Rattle.model.specs.Film.{Film as FilmValue, film_of};
+
+    ghost Value = { FilmValue };
+
+    ghost view = { λ f. film_of f.head f.weights.now f.diagonals.now f.rights.now f.ups.now f.sources.now };
+}
+
+// Document 02, W2: what links within a row, and between rows, are multiplied by.
+#[derive(Clone, Copy)]
+pub struct Factors {
+    pub along: u32,
+    pub across: u32,
+}
+
+// A gauged film, as a call is lent it: in contracts it is model/specs/Gauge's. Its grid steps are there if it has a field for them.
+#[derive(Drop)]
+pub struct Gauged<'a> {
+    pub head: Head,
+    pub weights: &'a [u16],
+    pub thicknesses: &'a [u8],
+    pub wedge: i32,
+    pub steps: Option<Factors>,
+}
+
+impl<'a> Model for Gauged<'a> {
+    ghost use Rattle.model.specs.Gauge.{Gauge};
+    ghost use Rattle.model.specs.FileCalls.{gauge_of};
+
+    ghost Value = { Gauge };
+
+    ghost view = { λ g. gauge_of g.head g.weights.now g.thicknesses.now g.wedge g.steps };
+}
+
 // A refused call: why, and where.
 #[derive(Clone, Copy)]
 pub struct Refusal {
@@ -25,49 +71,12 @@ pub struct Refusal {
     pub place: usize,
 }
 
-// What a test of a call's input finds.
-#[derive(Clone, Copy)]
-pub enum Tested {
-    Fine,
-    Refused(Refusal),
-}
-
-// The answer of a relaxation: the cell is quiet, raised to a pressure, or would pass the ceiling.
+// What a relaxation finds: the cell is quiet, raised to a pressure, or would pass the ceiling.
 #[derive(Clone, Copy)]
 pub enum Relaxed {
     Quiet,
     Raised(u32),
     Over(usize),
-    Refused(Refusal),
-}
-
-// The answer to a question for a cell's slack.
-#[derive(Clone, Copy)]
-pub enum Slack {
-    Is(i64),
-    Refused(Refusal),
-}
-
-// The answer to a question for a film's margin.
-#[derive(Clone, Copy)]
-pub enum Margin {
-    Is(u32),
-    Refused(Refusal),
-}
-
-// The answer to a line proposal: accepted, with the number of cells raised, or rejected.
-#[derive(Clone, Copy)]
-pub enum Proposed {
-    Accepted(u32),
-    Rejected,
-    Refused(Refusal),
-}
-
-// The answer to a question for a line's estimate, which is written into a lent slice.
-#[derive(Clone, Copy)]
-pub enum Estimated {
-    Written,
-    Refused(Refusal),
 }
 
 // What a run counts: relaxations, raises that they made, and cells raised by accepted proposals.
@@ -78,60 +87,18 @@ pub struct Counts {
     pub accepted: u32,
 }
 
-// The answer of a run.
+// How a run ends.
 #[derive(Clone, Copy)]
 pub enum Ran {
     Done(Counts),
     Stopped(Counts),
     Over(usize, Counts),
-    Refused(Refusal),
 }
 
-// The answer of the call that forms coefficients, which are written into lent slices.
+// What the film file's reader answers; weights and thicknesses are in the lent buffers.
 #[derive(Clone, Copy)]
-pub enum Formed {
-    Written,
-    Refused(Refusal),
-}
-
-// The answer of the film file's writer: the file is written into a lent slice.
-#[derive(Clone, Copy)]
-pub enum Saved {
-    Written,
-    Refused(Refusal),
-}
-
-// Document 02, W2: what links within a row, and between rows, are multiplied by.
-#[derive(Clone, Copy)]
-pub struct Factors {
-    pub along: u32,
-    pub across: u32,
-}
-
-// A film's grid steps: it has no field for them, or that field with two factors.
-#[derive(Clone, Copy)]
-pub enum Steps {
-    Absent,
-    Given(Factors),
-}
-
-// The answer of the film file's reader: shape, ceiling, wedge and grid steps; weights and thicknesses are in the lent buffers.
-#[derive(Clone, Copy)]
-pub enum Loaded {
-    Film(Head, i32, Steps),
-    Refused(Refusal),
-}
-
-// The answer of the coefficient film file's reader: shape and ceiling; weights and coefficients are in the lent buffers.
-#[derive(Clone, Copy)]
-pub enum LoadedCoefficients {
-    Film(Head),
-    Refused(Refusal),
-}
-
-// The answer of the report: the length of the text, which is written at the start of a lent buffer.
-#[derive(Clone, Copy)]
-pub enum Reported {
-    Written(usize),
-    Refused(Refusal),
+pub struct Numbers {
+    pub head: Head,
+    pub wedge: i32,
+    pub steps: Option<Factors>,
 }

@@ -12,10 +12,8 @@ fn place_of(falling: bool, n: usize, k: usize) -> u16
     requires { (k < n) × (n ≤ 2 ^ 16) }
     ensures { result ≡ by_index falling n k }
 {
-    if falling {
-        return (n - 1 - k) as u16;
-    }
-    k as u16
+    let cell = if falling { n - 1 - k } else { k };
+    cell as u16
 }
 
 // Fills the first n places by index or by falling index.
@@ -23,10 +21,8 @@ fn fill_by_index(falling: bool, n: usize, table: &mut [u16])
     requires { (n ≤ length table.old) × (n ≤ 2 ^ 16) }
     ensures { take n table.new ≡ tabulate n (by_index falling n) }
 {
-    let mut k = 0;
-    while k < n {
+    for k in 0..n {
         table[k] = place_of(falling, n, k);
-        k += 1;
     }
 }
 
@@ -44,13 +40,11 @@ fn append_cells(even: bool, columns: usize, n: usize, table: &mut [u16], start: 
     ensures { Appended (picks (has_parity even columns) n) start table.old table.new result }
 {
     let mut next = start;
-    let mut cell = 0;
-    while cell < n {
+    for cell in 0..n {
         if has_parity(even, columns, cell) {
             table[next] = cell as u16;
             next += 1;
         }
-        cell += 1;
     }
     next
 }

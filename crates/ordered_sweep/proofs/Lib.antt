@@ -1,2 +1,2 @@
 -- Laws that the proofs of the functions share.
-pub mod Film
+pub mod Table

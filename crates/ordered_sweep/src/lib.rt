@@ -4,16 +4,16 @@
 // Proved: answer, counts and field are those of the film's own sweep in that ordering (crate `model`: Run).
 #![tactic(auto)]
 
-ghost use Rattle.std.specs.Prelude.{◌≡◌, List, [], ℕ, ◌*◌, ◌^◌, ◌<◌, length};
+ghost use Rattle.std.specs.Prelude.{◌≡◌, ◌^◌, ◌<◌, length};
 ghost use Rattle.monotone.specs.Sweep.{begin, sweep as sweep_of};
-ghost use Rattle.model.specs.Film.{film_of, rule};
+ghost use Rattle.model.specs.Film.{size_of, rule};
 ghost use Rattle.model.specs.Accepted.{Limited};
-ghost use Rattle.model.specs.Result.{answered, unrefused, Gives};
-ghost use Rattle.model.specs.Run.{run_answer_of, end_of, ended, ordering};
+ghost use Rattle.model.specs.Result.{Gives};
+ghost use Rattle.model.specs.Run.{ran_of, end_of, ended, ordering};
 ghost use Rattle.sweep.specs.Sweep.{answer_of, counter_of};
 ghost use Rattle.ordered_sweep.specs.Counts.{counts_in};
 
-use model::{Counts, Head, Ran};
+use model::{Counts, Film, Ran};
 use pointwise::Counter;
 use sweep::Swept;
 
@@ -24,14 +24,14 @@ fn counts(counter: Counter, accepted: u32) -> Counts
     Counts {
         visits: counter.visits as u32,
         raises: counter.raises as u32,
-        accepted: accepted,
+        accepted,
     }
 }
 
 // How a sweep ended, as the run answers it.
 fn as_answer(swept: Swept, accepted: u32) -> Ran
     requires { ((counter_of swept).visits < 2 ^ 32) × ((counter_of swept).raises < 2 ^ 32) }
-    ensures { run_answer_of result ≡ answered (end_of (answer_of swept) (counts_in (counter_of swept) accepted)) }
+    ensures { ran_of result ≡ end_of (answer_of swept) (counts_in (counter_of swept) accepted) }
 {
     match swept {
         Swept::Done(c) => Ran::Done(counts(c, accepted)),
@@ -41,35 +41,17 @@ fn as_answer(swept: Swept, accepted: u32) -> Ran
 }
 
 // The relaxations of a run, from a field that proposals have readied.
-pub fn relaxations(
-    head: Head,
-    diagonals: &[u32],
-    rights: &[u32],
-    ups: &[u32],
-    sources: &[i64],
-    field: &mut [u32],
-    budget: u32,
-    order: u32,
-    accepted: u32,
-) -> Ran
-    requires by_index { (w : List ℕ) × Limited (film_of head w diagonals.now rights.now ups.now sources.now) }
-    requires field_len { length field.old ≡ head.rows * head.columns }
-    ensures { Gives (unrefused (ended (sweep_of (rule (film_of head [] diagonals.now rights.now ups.now sources.now)) (ordering (film_of head [] diagonals.now rights.now ups.now sources.now) order) budget (begin field.old)) accepted)) (run_answer_of result) field.new }
+pub fn relaxations(film: &Film, field: &mut [u32], budget: u32, order: u32, accepted: u32) -> Ran
+    requires limited { Limited film.now }
+    requires field { length field.old ≡ size_of film.now }
+    ensures { Gives (ended (sweep_of (rule film.now) (ordering film.now order) budget (begin field.old)) accepted) (ran_of result) field.new }
 {
     let n = field.len();
-    let columns = head.columns as usize;
+    let columns = film.head.columns as usize;
     let mut table = [0u16; 1024];
     order::fill_order(order, columns, n, &mut table);
-    let swept = sweep::sweep(
-        diagonals,
-        rights,
-        ups,
-        sources,
-        columns,
-        head.ceiling,
-        &table[..n],
-        field,
-        budget as u64,
-    );
-    as_answer(swept, accepted)
+    as_answer(
+        sweep::sweep(film, &table[..n], field, budget as u64),
+        accepted,
+    )
 }

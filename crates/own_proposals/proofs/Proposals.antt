@@ -2,32 +2,34 @@
 use mathlib.Core.Path.{◌≡◌, refl, sym, ap, ◌∙◌, subst}
 use mathlib.Core.Bool.{Bool, true, false}
 use mathlib.Core.List.{List}
-use Prim.Native.Nat.{ℕ, zero, suc, ◌+◌, ◌*◌, ◌≤◌, zero-le}
+use mathlib.Core.Logic.{◌⊎◌, inl, inr}
+use Prim.Native.Nat.{ℕ, zero, suc, ◌+◌, ◌-◌, ◌*◌, ◌≤◌, zero-le}
 use native.Mathlib.Nat.{zero-add}
-use native.Mathlib.Numerals.{add-one}
 use native.Mathlib.Omega.{arith}
-use lib.ListN.{length}
+use Rattle.std.specs.Prelude.{Option, None, Some, unwrap_or}
 use Rattle.monotone.specs.Rule.{Bounded}
 use Rattle.model.specs.Film.{Film, rule}
 use Rattle.model.specs.Accepted.{Accepted}
 use Rattle.model.specs.Result.{Gives}
-use Rattle.model.specs.Proposal.{ProposalAnswer, line_start, raised_by, rises, rise_count, accepts, decided, propose}
+use Rattle.model.specs.Proposal.{ProposalAnswer, proposed_of, line_start, raised_by, rises, rise_count, accepts, decided, propose}
 use Rattle.model.specs.Estimate.{estimate}
 use Rattle.model.specs.Run.{Readied, cells_of, propose_own, propose_lines, readied}
 use Rattle.model.proofs.Lists.{count_bound}
-use Rattle.model.proofs.Bare.{bare, propose_bare}
 use Rattle.model.proofs.Run.{lines_rise}
 use Rattle.own_proposals.specs.Readies.{from, Readies}
+
+-- how many cells a proposal raised, as the code has its answer
+pub cells_in : (o : Option ℕ) → unwrap_or o 0 ≡ cells_of (proposed_of o)
+cells_in None = refl
+cells_in (Some n) = refl
 
 module _ (f : Film) where
   -- one line's proposal, from the estimate that was written and the decision that was made
   pub own_gives : (p : List ℕ) (line start : ℕ) (proposal : List ℕ) (a : ProposalAnswer) (c : ℕ) (exit : List ℕ) → start ≡ line_start f line
-      → proposal ≡ estimate f p start → Gives (propose (bare f) start proposal p) a exit → c ≡ cells_of a → Readies (propose_own f line (from p)) c exit
+      → proposal ≡ estimate f p start → Gives (propose f start proposal p) a exit → c ≡ cells_of a → Readies (propose_own f line (from p)) c exit
   unfolding propose_own
   own_gives p line start proposal a c exit s o G e =
-      let k : propose (bare f) start proposal p ≡ propose f (line_start f line) (estimate f p (line_start f line)) p
-      = propose_bare f start proposal p ∙ ap (λ (x : List ℕ). propose f start x p) o ∙ ap (λ (x : ℕ). propose f x (estimate f p x) p) s in
-      let H : Gives (propose f (line_start f line) (estimate f p (line_start f line)) p) a exit = rw k at G in
+      let H : Gives (propose f (line_start f line) (estimate f p (line_start f line)) p) a exit = rw (o, s) at G in
       record { accepted_is = e ∙ ap cells_of H.answer_is ∙ sym (zero-add _); field_is = H.lent_is }
 
   -- a line has no more cells to raise than columns
@@ -59,45 +61,40 @@ module _ (f : Film) where
   unfolding propose_own
   own_field line s = refl
 
-  pub proposing_next : (p₀ p : List ℕ) (accepted line more : ℕ) (exit : List ℕ) → f.columns ≤ 32 → Proposing p₀ p accepted line
-      → Readies (propose_own f (line + 1) (from p)) more exit → Proposing p₀ exit (accepted + more) (line + 1)
+  pub proposing_next : (p₀ p : List ℕ) {accepted more : ℕ} (line : ℕ) (exit : List ℕ) → f.columns ≤ 32 → 1 ≤ line → Proposing p₀ p accepted (line - 1)
+      → Readies (propose_own f line (from p)) more exit → Proposing p₀ exit (accepted + more) line
   unfolding propose_lines
-  proposing_next p₀ p accepted line more exit w P R =
-      let s = propose_lines f line (from p₀) in
-      let a : accepted ≡ s.accepted = P.so_far.accepted_is in
-      let g : p ≡ s.field = P.so_far.field_is in
+  proposing_next p₀ p zero exit w h P R = absurd (omega arith)
+  proposing_next p₀ p {accepted} (suc k) exit w h P R =
+      let before : suc k - 1 ≡ k = omega arith in
+      let Q : Proposing p₀ p accepted k = rw before at P in
+      let s = propose_lines f k (from p₀) in
+      let a : accepted ≡ s.accepted = Q.so_far.accepted_is in
+      let g : p ≡ s.field = Q.so_far.field_is in
       record {
-        so_far =
-            rw add-one
-            (record {
-              accepted_is = sym (own_after (suc line) s ∙ ap (λ (n : ℕ). n + (propose_own f (suc line) (from s.field)).accepted) (sym a)
-                  ∙ ap (λ (x : List ℕ). accepted + (propose_own f (suc line) (from x)).accepted) (sym g)
-                  ∙ ap (λ (n : ℕ). accepted + n) (rw (← (add-one line)) (sym R.accepted_is)));
-              field_is = rw add-one at R.field_is ∙ ap (λ (x : List ℕ). (propose_own f (suc line) (from x)).field) g ∙ sym (own_field (suc line) s);
-            });
-        low = omega (arith, P.low, R.accepted_is, own_low (line + 1) p);
+        so_far = record {
+          accepted_is = sym (own_after (suc k) s ∙ ap (λ (n : ℕ). n + (propose_own f (suc k) (from s.field)).accepted) (sym a)
+              ∙ ap (λ (x : List ℕ). accepted + (propose_own f (suc k) (from x)).accepted) (sym g)
+              ∙ ap (λ (n : ℕ). accepted + n) (sym R.accepted_is));
+          field_is = R.field_is ∙ ap (λ (x : List ℕ). (propose_own f (suc k) (from x)).field) g ∙ sym (own_field (suc k) s);
+        };
+        low = omega (arith, Q.low, R.accepted_is, own_low (suc k) p);
       }
 
   module _ (A : Accepted f) (p₀ p : List ℕ) (accepted line : ℕ) (P : Proposing p₀ p accepted line) (B : Bounded (rule f) p₀) where
     pub proposing_bounded : Bounded (rule f) p
     proposing_bounded = rw P.so_far.field_is (lines_rise f A line (from p₀) B).bounded
 
-    pub proposing_long : length p ≡ length p₀
-    proposing_long = proposing_bounded.len ∙ sym B.len
-
   pub proposing_done : (p₀ p : List ℕ) (accepted line : ℕ) → Proposing p₀ p accepted line → line ≡ f.rows
       → Readies (propose_lines f f.rows (from p₀)) accepted p
   proposing_done p₀ p accepted line P e = subst (λ (n : ℕ). Readies (propose_lines f n (from p₀)) accepted p) e P.so_far
 
   -- before the relaxations
-  pub ready_none : (budget : ℕ) (on : Bool) (p : List ℕ) → budget ≡ 0 → Readies (readied f budget on p) 0 p
+  pub ready_same : (budget : ℕ) (on : Bool) (p : List ℕ) → (budget ≡ 0) ⊎ ((budget ≡ 0 → ⊥) × (on ≡ false)) → Readies (readied f budget on p) 0 p
   unfolding readied
-  ready_none budget on p e = rw e (record { accepted_is = refl; field_is = refl })
-
-  pub ready_off : (budget : ℕ) (on : Bool) (p : List ℕ) → on ≡ false → Readies (readied f budget on p) 0 p
-  unfolding readied
-  ready_off zero on p e = record { accepted_is = refl; field_is = refl }
-  ready_off (suc b) on p e = rw e (record { accepted_is = refl; field_is = refl })
+  ready_same budget on p (inl e) = rw e (record { accepted_is = refl; field_is = refl })
+  ready_same zero on p (inr (n, e)) = record { accepted_is = refl; field_is = refl }
+  ready_same (suc b) on p (inr (n, e)) = rw e (record { accepted_is = refl; field_is = refl })
 
   pub ready_on : (budget : ℕ) (on : Bool) (p : List ℕ) (accepted : ℕ) (exit : List ℕ) → (budget ≡ 0 → ⊥) → on ≡ true
       → Readies (propose_lines f f.rows (from p)) accepted exit → Readies (readied f budget on p) accepted exit

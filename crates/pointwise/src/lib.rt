@@ -69,24 +69,18 @@ pub fn counted(c: Counter, found: Found) -> Counter
     ensures { result ≡ count_after (kind_of found) c }
 {
     let visits = c.visits + 1;
-    let raises = c.raises;
-    let quiet = c.quiet;
     match found {
         Found::Quiet => Counter {
             visits,
-            raises,
-            quiet: quiet + 1,
+            quiet: c.quiet + 1,
+            ..c
         },
         Found::Raised => Counter {
             visits,
-            raises: raises + 1,
+            raises: c.raises + 1,
             quiet: 0,
         },
-        Found::Over => Counter {
-            visits,
-            raises,
-            quiet,
-        },
+        Found::Over => Counter { visits, ..c },
     }
 }
 
@@ -94,9 +88,8 @@ pub fn counted(c: Counter, found: Found) -> Counter
 pub fn judged(n: usize, at: usize, after: After) -> Step
     ensures { result ≡ judge_by (kind_of after.found) n at after.counter }
 {
-    let found = after.found;
     let counter = after.counter;
-    match found {
+    match after.found {
         Found::Quiet => {
             if counter.quiet == n {
                 Step::Done(counter)

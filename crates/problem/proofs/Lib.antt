@@ -1,2 +1,2 @@
--- Laws that the proofs of the functions share.
-pub mod Calls
+-- What the proofs of several functions use.
+mod Passed

@@ -4,35 +4,24 @@
 // Proved: the whole answer, and the field, are those of crate `model` (relax_call, slack_call).
 #![tactic(auto)]
 
-ghost use Rattle.std.specs.Prelude.{◌≡◌, List, [], ℕ, ◌*◌, ◌<◌, length};
-ghost use Rattle.model.specs.Film.{film_of};
+ghost use Rattle.std.specs.Prelude.{◌≡◌, ◌<◌, length};
+ghost use Rattle.model.specs.Film.{size_of};
 ghost use Rattle.model.specs.Accepted.{Limited};
-ghost use Rattle.model.specs.Result.{unrefused, Gives};
-ghost use Rattle.model.specs.Relaxation.{relax_answer_of, relax as relax_of, relax_call, slack_answer_of, slack_call};
+ghost use Rattle.model.specs.Result.{answer_of, answer_as, Gives};
+ghost use Rattle.model.specs.Relaxation.{relaxed_of, relax as relax_of, relax_call, slack_call};
 
-use model::{Head, Relaxed, Slack, Tested};
+use model::{Film, Refusal, Relaxed};
 use pointwise::Found;
 
 // The relaxation of a cell of a film that has passed its tests.
-fn relax_cell(
-    head: Head,
-    diagonals: &[u32],
-    rights: &[u32],
-    ups: &[u32],
-    sources: &[i64],
-    field: &mut [u32],
-    at: usize,
-) -> Relaxed
-    requires by_index { (w : List ℕ) × Limited (film_of head w diagonals.now rights.now ups.now sources.now) }
-    requires field_len { (length field.old ≡ head.rows * head.columns) × (at < head.rows * head.columns) }
-    ensures { Gives (unrefused (relax_of (film_of head [] diagonals.now rights.now ups.now sources.now) field.old at)) (relax_answer_of result) field.new }
+fn relax_cell(film: &Film, field: &mut [u32], at: usize) -> Relaxed
+    requires limited { Limited film.now }
+    requires field { (length field.old ≡ size_of film.now) × (at < size_of film.now) }
+    ensures { Gives (relax_of film.now field.old at) (relaxed_of result) field.new }
 {
     let pressure = field[at];
-    let columns = head.columns as usize;
-    let target = grid::cell_at(diagonals, rights, ups, sources, columns, &field[..], at).raise(
-        pressure,
-    );
-    match pointwise::relax_at(field, at, target, head.ceiling) {
+    let target = grid::cell_at(film, &field[..], at).raise(pressure);
+    match pointwise::relax_at(field, at, target, film.head.ceiling) {
         Found::Quiet => Relaxed::Quiet,
         Found::Raised => Relaxed::Raised(target as u32),
         Found::Over => Relaxed::Over(at),
@@ -40,63 +29,19 @@ fn relax_cell(
 }
 
 // Relaxes one cell of the field (document 01: a visit).
-pub fn relax(
-    head: Head,
-    weights: &[u16],
-    diagonals: &[u32],
-    rights: &[u32],
-    ups: &[u32],
-    sources: &[i64],
-    field: &mut [u32],
-    at: usize,
-) -> Relaxed
-    ensures { Gives (relax_call (film_of head weights.now diagonals.now rights.now ups.now sources.now) field.old at) (relax_answer_of result) field.new }
+pub fn relax(film: &Film, field: &mut [u32], at: usize) -> Result<Relaxed, Refusal>
+    ensures { Gives (relax_call film.now field.old at) (answer_as relaxed_of result) field.new }
 {
-    let place = list_tests::cell_test(head, at);
-    match checks::field_tests(
-        head,
-        weights,
-        diagonals,
-        rights,
-        ups,
-        sources,
-        &field[..],
-        true,
-        Tested::Fine,
-        place,
-    ) {
-        Tested::Fine => relax_cell(head, diagonals, rights, ups, sources, field, at),
-        Tested::Refused(r) => Relaxed::Refused(r),
-    }
+    let place = list_tests::cell_test(film.head, at);
+    checks::field_tests(film, &field[..], true, Ok(()), place)?;
+    Ok(relax_cell(film, field, at))
 }
 
 // Tells the slack of one cell of the field (document 01: its spare).
-pub fn slack(
-    head: Head,
-    weights: &[u16],
-    diagonals: &[u32],
-    rights: &[u32],
-    ups: &[u32],
-    sources: &[i64],
-    field: &[u32],
-    at: usize,
-) -> Slack
-    ensures { slack_answer_of result ≡ slack_call (film_of head weights.now diagonals.now rights.now ups.now sources.now) field.now at }
+pub fn slack(film: &Film, field: &[u32], at: usize) -> Result<i64, Refusal>
+    ensures { answer_of result ≡ slack_call film.now field.now at }
 {
-    let inside = list_tests::cell_test(head, at);
-    match checks::field_tests(
-        head,
-        weights,
-        diagonals,
-        rights,
-        ups,
-        sources,
-        field,
-        true,
-        Tested::Fine,
-        inside,
-    ) {
-        Tested::Fine => Slack::Is(grid::slack_of(head, diagonals, rights, ups, sources, field, at)),
-        Tested::Refused(r) => Slack::Refused(r),
-    }
+    let place = list_tests::cell_test(film.head, at);
+    checks::field_tests(film, field, true, Ok(()), place)?;
+    Ok(grid::slack_of(film, field, at))
 }

@@ -5,22 +5,14 @@
 // only after the tests, so a rejected proposal leaves it alone.
 #![tactic(auto)]
 
-ghost use Rattle.std.specs.Prelude.{◌≡◌, List, [], ℕ, ◌+◌, ◌-◌, ◌*◌, ◌≤◌, length};
-ghost use Rattle.model.specs.Film.{film_of};
+ghost use Rattle.std.specs.Prelude.{◌≡◌, ◌+◌, ◌-◌, ◌*◌, ◌≤◌, length};
+ghost use Rattle.model.specs.Film.{size_of};
 ghost use Rattle.model.specs.Accepted.{Limited};
 ghost use Rattle.model.specs.Result.{Gives};
-ghost use Rattle.model.specs.Proposal.{accepts, decided, propose as propose_of};
+ghost use Rattle.model.specs.Proposal.{proposed_of, accepts, decided, propose as propose_of};
 ghost use Rattle.tightness.specs.Row.{Row};
-ghost use Rattle.proposal.specs.Decision.{decision_of};
 
-use model::Head;
-
-// What became of a proposal: accepted, with the number of cells that rose, or rejected.
-#[derive(Clone, Copy)]
-pub enum Decision {
-    Accepted(u32),
-    Rejected,
-}
+use model::Film;
 
 // The first cell of a line, which is counted from 1.
 pub fn line_start(columns: u32, line: u32) -> usize
@@ -30,67 +22,32 @@ pub fn line_start(columns: u32, line: u32) -> usize
     ((line - 1) * columns) as usize
 }
 
-// The tests of the new field, and then the new field for the old one if they hold.
-fn settle(
-    head: Head,
-    diagonals: &[u32],
-    rights: &[u32],
-    ups: &[u32],
-    sources: &[i64],
-    field: &mut [u32],
-    raised: &[u32],
-    start: usize,
-) -> Decision
-    requires by_index { (w : List ℕ) × Limited (film_of head w diagonals.now rights.now ups.now sources.now) }
-    requires row { Row head start field.old raised.now }
-    ensures { Gives (decided (accepts (film_of head [] diagonals.now rights.now ups.now sources.now) start field.old raised.now) (film_of head [] diagonals.now rights.now ups.now sources.now) start field.old raised.now) (decision_of result) field.new }
+// The tests of the new field, and then the new field for the old one if they hold; it answers how many cells rose.
+#[tactic(auto, using(crate::proofs::Proposal::all_hold, crate::proofs::Proposal::one_fails), unfolding(model::specs::Proposal::rise_count, model::specs::Proposal::within_ceiling))]
+fn settle(film: &Film, field: &mut [u32], raised: &[u32], start: usize) -> Option<u32>
+    requires limited { Limited film.now }
+    requires row { Row film.now start field.old raised.now }
+    ensures { Gives (decided (accepts film.now start field.old raised.now) film.now start field.old raised.now) (proposed_of result) field.new }
 {
-    let columns = head.columns as usize;
+    let columns = film.head.columns as usize;
     let cells = raising::rise_count(&field[..], raised, start, columns);
-    let low = raising::within_ceiling(raised, start, columns, head.ceiling);
-    let tight = tightness::tight_row(
-        head,
-        diagonals,
-        rights,
-        ups,
-        sources,
-        &field[..],
-        raised,
-        start,
-    );
-    if (0 < cells) & low & tight {
-        raising::copy_field(raised, field);
-        return Decision::Accepted(cells);
+    let low = raising::within_ceiling(raised, start, columns, film.head.ceiling);
+    let tight = tightness::tight_row(film, &field[..], raised, start);
+    if 0 < cells && low && tight {
+        field.copy_from_slice(raised);
+        return Some(cells);
     }
-    Decision::Rejected
+    None
 }
 
-// A proposal for the row that begins at `start`.
-pub fn propose(
-    head: Head,
-    diagonals: &[u32],
-    rights: &[u32],
-    ups: &[u32],
-    sources: &[i64],
-    field: &mut [u32],
-    start: usize,
-    proposal: &[u32],
-) -> Decision
-    requires by_index { (w : List ℕ) × Limited (film_of head w diagonals.now rights.now ups.now sources.now) }
-    requires field_len { (length field.old ≡ head.rows * head.columns) × (start + head.columns ≤ head.rows * head.columns) × (length proposal.now ≡ head.columns) }
-    ensures { Gives (propose_of (film_of head [] diagonals.now rights.now ups.now sources.now) start proposal.now field.old) (decision_of result) field.new }
+// A proposal for the row that begins at `start`: accepted, with the number of cells that rose, or rejected.
+pub fn propose(film: &Film, field: &mut [u32], start: usize, proposal: &[u32]) -> Option<u32>
+    requires limited { Limited film.now }
+    requires row { (length field.old ≡ size_of film.now) × (start + film.now.columns ≤ size_of film.now) × (length proposal.now ≡ film.now.columns) }
+    ensures { Gives (propose_of film.now start proposal.now field.old) (proposed_of result) field.new }
 {
     let n = field.len();
     let mut buffer = [0u32; 1024];
     raising::raise_line(&field[..], start, proposal, &mut buffer);
-    settle(
-        head,
-        diagonals,
-        rights,
-        ups,
-        sources,
-        field,
-        &buffer[..n],
-        start,
-    )
+    settle(film, field, &buffer[..n], start)
 }

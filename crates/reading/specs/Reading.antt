@@ -1,5 +1,5 @@
 -- What the reader has decoded, what a film's weights give, and what the reader gives by what its tests find.
-use Rattle.std.specs.Prelude.{◌≡◌, List, ℕ}
+use Rattle.std.specs.Prelude.{◌≡◌, List, ℕ, Result}
 use Rattle.model.specs.Refusals.{Check, pass, check_of}
 use Rattle.model.specs.Gauge.{Gauge}
 use Rattle.model.specs.Coefficients.{formed}
@@ -7,19 +7,19 @@ use Rattle.model.specs.Weighing.{held_check}
 use Rattle.model.specs.Result.{Answer, answer_by, kept}
 use Rattle.model.specs.File.{weightless, gauged_in, numbers_in, gauge_in, fields_check}
 use Rattle.model.specs.FileCalls.{head_of, LoadAnswer, load_answer, laid_over}
-use Rattle.model.specs.declared.Head.{Head}
-use Rattle.model.specs.declared.Steps.{Steps}
-use Rattle.model.specs.declared.Tested.{Tested}
+use Rattle.model.specs.declared.Numbers.{Numbers}
+use Rattle.model.specs.declared.Refusal.{Refusal}
 
--- a file whose fields have passed: its shape and ceiling, the thicknesses as they stand in it, and its steps
-pub record Decoded (bytes : List ℕ) (h : Head) (thicknesses : List ℕ) (steps : Steps) : Type 0 where
+-- a file whose fields have passed: the numbers that stand in it, and the thicknesses as they do
+pub record Decoded (bytes : List ℕ) (n : Numbers) (thicknesses : List ℕ) : Type 0 where
   pub fields : fields_check (gauged_in bytes) bytes ≡ pass
-  pub head_is : h ≡ head_of (numbers_in bytes)
+  pub head_is : n.head ≡ head_of (numbers_in bytes)
+  pub wedge_is : n.wedge ≡ (numbers_in bytes).wedge
+  pub steps_are : n.steps ≡ (numbers_in bytes).steps
   pub thicknesses_are : thicknesses ≡ (numbers_in bytes).thicknesses
-  pub steps_are : steps ≡ (numbers_in bytes).steps
 
 -- what the test of its weights, or the search for them, finds and, where that passes, the weights
-pub record Weighs (bytes : List ℕ) (r : Tested) (exit : List ℕ) : Type 0 where
+pub record Weighs (bytes : List ℕ) (r : Result (Unit {0}) Refusal) (exit : List ℕ) : Type 0 where
   pub finds : check_of r ≡ held_check (weightless bytes) (formed (numbers_in bytes))
   pub weights_are : check_of r ≡ pass → exit ≡ (gauge_in bytes).weights
 

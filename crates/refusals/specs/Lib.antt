@@ -1,2 +1,2 @@
 -- What the contracts cite beside the model.
-pub mod Parts
+pub mod Tests

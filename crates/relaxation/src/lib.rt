@@ -1,15 +1,17 @@
 // The relaxation of one cell from lent slices, counted. Internal: the sweep calls it.
 // The counter is lent to the relaxation step, which moves it on beside the field; `stepped` lends it from a local, so that callers pass values.
 //
-// Proved: the field and the counts are those of a relaxation to what the cell requires under the film's rule, read by index.
+// Proved: the field and the counts are those of a relaxation to what the cell requires under the film's rule.
 #![tactic(auto)]
 
-ghost use Rattle.std.specs.Prelude.{◌<◌, length};
+ghost use Rattle.std.specs.Prelude.{◌≡◌, ◌<◌, length};
 ghost use Rattle.monotone.specs.Sweep.{relax};
 ghost use Rattle.pointwise.specs.Relaxation.{Room, Stepped, Relaxes};
-ghost use Rattle.grid.specs.Pull.{Aligned};
-ghost use Rattle.relaxation.specs.Rule.{required_by};
+ghost use Rattle.model.specs.Film.{size_of};
+ghost use Rattle.model.specs.Relaxation.{required};
+ghost use Rattle.model.specs.Accepted.{Limited};
 
+use model::Film;
 use pointwise::{After, Counter, Found};
 
 // The relaxation step: the field is written, and the lent counter moves on.
@@ -33,24 +35,13 @@ pub fn stepped(field: &mut [u32], at: usize, target: u64, ceiling: u32, c: Count
 }
 
 // The relaxation of a cell, counted.
-pub fn relaxed(
-    diagonals: &[u32],
-    rights: &[u32],
-    ups: &[u32],
-    sources: &[i64],
-    columns: usize,
-    ceiling: u32,
-    field: &mut [u32],
-    at: usize,
-    c: Counter,
-) -> After
-    requires aligned { Aligned columns diagonals.now rights.now ups.now sources.now field.old }
-    requires at_in_bounds { (at < length field.old) × Room c }
-    ensures { Relaxes field.old at (required_by columns diagonals.now rights.now ups.now sources.now field.old at) ceiling c result field.new }
+pub fn relaxed(film: &Film, field: &mut [u32], at: usize, c: Counter) -> After
+    requires limited { Limited film.now }
+    requires field { (length field.old ≡ size_of film.now) × (at < size_of film.now) }
+    requires room { Room c }
+    ensures { Relaxes field.old at (required film.now field.old at) film.now.ceiling c result field.new }
 {
     let pressure = field[at];
-    let target = grid::cell_at(diagonals, rights, ups, sources, columns, &field[..], at).raise(
-        pressure,
-    );
-    stepped(field, at, target, ceiling, c)
+    let target = grid::cell_at(film, field, at).raise(pressure);
+    stepped(field, at, target, film.head.ceiling, c)
 }

@@ -1,15 +1,17 @@
 -- A search for the peak that has come to cell i.
-use mathlib.Core.Path.{◌≡◌, refl, sym, ap, ◌∙◌, subst}
+use mathlib.Core.Path.{◌≡◌, refl, sym, ap, ap₂, ◌∙◌, subst}
 use mathlib.Core.Bool.{Bool, true, false, cond}
 use mathlib.Core.List.{List}
-use Prim.Native.Nat.{ℕ, ◌+◌, ◌%◌, ◌≤◌, ◌<◌}
-use native.Mathlib.Nat.{zero-mod, mod-lt, mod_self, mod-eq_of_lt, mod-add-mod}
+use Prim.Native.Nat.{ℕ, ◌+◌, ◌/◌, ◌%◌, ◌≤◌, ◌<◌}
+use native.Mathlib.Nat.{zero-mod, mod-lt, mod_self, mod-eq_of_lt, mod-add-mod, mul-le-mul}
 use native.Mathlib.Numerals.{add-one}
 use native.Mathlib.Omega.{arith}
 use lib.ListN.{length, get_or}
-use Rattle.model.specs.Film.{Film, size_of, row_of, column_of}
+use Rattle.model.specs.Film.{Film, size_of}
+use Rattle.model.specs.Accepted.{Sized}
 use Rattle.model.specs.Report.{outranks, higher, peak_of, peak_cell, peak_line}
 use Rattle.model.proofs.Peak.{peak_is}
+use Rattle.grid.proofs.Limited.{size_low}
 use Rattle.report_lines.specs.Lines.{peak_text}
 
 pub record Peaked (columns : ℕ) (p : List ℕ) (best edge column i : ℕ) : Type 0 where
@@ -56,11 +58,21 @@ module _ {columns : ℕ} {p : List ℕ} where
   pub peak_all : {best edge column i : ℕ} → Peaked columns p best edge column i → length p ≤ i → best ≡ peak_of columns p (length p)
   peak_all {i = i} P h = let e : i ≡ length p = omega (arith, P.within) in P.is ∙ ap (peak_of columns p) e
 
--- the peak of a film with cells is one of them
-pub peak_inside : (f : Film) (p : List ℕ) {top : ℕ} → 0 < size_of f → top ≡ peak_cell f p → top < size_of f
-peak_inside f p h e = subst (λ (k : ℕ). k < size_of f) (sym e) (peak_is f.columns p (size_of f) h).inside
+-- The peak of a film, where it was searched for by its columns: it is one of the cells, ..
+pub record AtPeak (f : Film) (p : List ℕ) (columns top : ℕ) : Type 0 where
+  pub is : top ≡ peak_cell f p
+  pub inside : top < length p
+  pub placed : (1 ≤ columns) × (top ≤ 1024)
 
--- its line, from the numbers on it
-pub peak_line_lem : (f : Film) (p : List ℕ) {top row column pressure : ℕ} → top ≡ peak_cell f p → row ≡ row_of f top + 1
-    → column ≡ column_of f top + 1 → pressure ≡ get_or p top 0 → peak_text row column pressure ≡ peak_line f p
-peak_line_lem f p e r c v = rw (r, c, v, e)
+pub at_peak : {f : Film} {columns top : ℕ} (p : List ℕ) → Sized f → columns ≡ f.columns → length p ≡ size_of f
+    → top ≡ peak_of columns p (length p) → AtPeak f p columns top
+at_peak {f} {columns} {top} p s c n e =
+    let is : top ≡ peak_cell f p = e ∙ ap₂ (λ (k m : ℕ). peak_of k p m) c n in
+    let some : 0 < size_of f = omega (arith, mul-le-mul s.rows_some s.columns_some) in
+    let inside : top < size_of f = subst (λ (k : ℕ). k < size_of f) (sym is) (peak_is f.columns p (size_of f) some).inside in
+    record { is = is; inside = omega arith; placed = (omega (arith, s.columns_some), omega (arith, size_low s)) }
+
+-- .. and its line, from the numbers on it
+pub peak_line_lem : {f : Film} {p : List ℕ} {columns top row column pressure : ℕ} → AtPeak f p columns top → columns ≡ f.columns → row ≡ top / columns + 1
+    → column ≡ top % columns + 1 → pressure ≡ get_or p top 0 → peak_text row column pressure ≡ peak_line f p
+peak_line_lem a c r k v = rw (r, k, v, c, a.is)

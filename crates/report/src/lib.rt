@@ -7,14 +7,14 @@
 #![tactic(auto)]
 
 ghost use Rattle.std.specs.Prelude.{◌≡◌};
-ghost use Rattle.model.specs.Result.{Gives};
+ghost use Rattle.model.specs.Result.{answer_of, Gives};
 ghost use Rattle.model.specs.EitherFile.{tagged06};
 ghost use Rattle.model.specs.Report.{report_of};
-ghost use Rattle.model.specs.ReportCall.{report_answer_of, report_call};
+ghost use Rattle.model.specs.ReportCall.{report_call};
 ghost use Rattle.text.specs.Writes.{Fits, Writes};
 
 use fault::Fault;
-use model::{Refusal, Reported};
+use model::Refusal;
 
 // The length of the longest report, as in model/specs/ReportCall.
 const LONGEST: usize = 33288;
@@ -27,8 +27,8 @@ const DIAGONALS: u8 = 6;
 fn tagged_06(file: &[u8]) -> bool
     ensures { result ≡ tagged06 file.now }
 {
-    let rows = words::numbers::byte_at(file, 3) as u32;
-    let columns = words::numbers::byte_at(file, 4) as u32;
+    let rows = u32::from(words::numbers::byte_at(file, 3));
+    let columns = u32::from(words::numbers::byte_at(file, 4));
     let weights = headers::carried(file, shape::area(rows, columns));
     words::numbers::byte_at(file, 15 + 2 * weights) == DIAGONALS
 }
@@ -46,14 +46,9 @@ fn put_report(file: &[u8], out: &mut [u8]) -> usize
 
 // Writes the report of a film file into a lent buffer that holds any report, and answers its length. Places beyond it keep their
 // contents.
-pub fn report(file: &[u8], out: &mut [u8]) -> Reported
-    ensures { Gives (report_call file.now out.old) (report_answer_of result) out.new }
+pub fn report(file: &[u8], out: &mut [u8]) -> Result<usize, Refusal>
+    ensures { Gives (report_call file.now out.old) (answer_of result) out.new }
 {
-    if out.len() < LONGEST {
-        return Reported::Refused(Refusal {
-            fault: Fault::WrongBuffer,
-            place: 0,
-        });
-    }
-    Reported::Written(put_report(file, out))
+    refusals::fail_if(out.len() < LONGEST, Fault::WrongBuffer, 0)?;
+    Ok(put_report(file, out))
 }

@@ -8,7 +8,6 @@ ghost use Rattle.std.specs.Prelude.{◌≡◌, ◌≤◌, ◌↔◌, length, IfO
 ghost use Rattle.model.specs.Report.{report_of};
 ghost use Rattle.model.specs.ReportCall.{longest_report};
 
-use model::Reported;
 use std::rt::Files;
 use std::{env, fs, io};
 
@@ -18,8 +17,8 @@ fn agrees(film: &[u8], expected: &[u8], text: &mut [u8]) -> bool
     ensures { IsTrue result ↔ report_of film.now ≡ expected.now }
 {
     match report::report(film, text) {
-        Reported::Written(n) => &text[..n] == expected,
-        Reported::Refused(_) => false,
+        Ok(n) => &text[..n] == expected,
+        Err(_) => false,
     }
 }
 

@@ -1,38 +1,30 @@
 // Refusal 9, of films given by thicknesses: the weighted row sums straight from thicknesses, grid steps and weights, row by row. No table of
-// coefficients is made for it, since clearing one costs more than a small film's whole test. Internal: crates `gauge` and `file`
+// coefficients is made for it, since clearing one costs more than a small film's whole test. Internal: crates `gauge` and `reading`
 // call it where all other tests have passed. Crate `dominance` has that test for coefficients.
 #![tactic(auto)]
 
-ghost use Rattle.std.specs.Prelude.{◌≡◌, ◌+◌, ◌-◌, ◌*◌, ◌≤◌, ℤ, pos, length};
-ghost use Rattle.model.specs.Refusals.{pass, check_of};
-ghost use Rattle.model.specs.Gauge.{factors_of, by_factors, Stepped};
+ghost use Rattle.std.specs.Prelude.{◌≡◌, ◌+◌, ◌-◌, ◌*◌, ◌≤◌, ℤ, length};
+ghost use Rattle.model.specs.Refusals.{check_of};
+ghost use Rattle.model.specs.Gauge.{factors_of, Stepped};
 ghost use Rattle.model.specs.Coefficients.{formed};
 ghost use Rattle.model.specs.Checks.{not_dominant};
-ghost use Rattle.model.specs.File.{gauge_dominance};
-ghost use Rattle.model.specs.FileCalls.{gauge_of};
-ghost use Rattle.refusals.specs.Parts.{dominance_to};
+ghost use Rattle.model.specs.File.{cells, gauge_dominance};
 ghost use Rattle.forming.specs.Cell.{Ringed};
 
 use fault::Fault;
-use model::{Factors, Head, Refusal, Steps, Tested};
+use model::{Factors, Gauged, Refusal};
 
 // Whether the weighted row sum of cell (row, column) is below 1: the weights beside it pull at least as much as its own bears.
-fn not_dominant(
-    head: Head,
-    weights: &[u16],
-    thicknesses: &[u8],
-    factors: Factors,
-    row: usize,
-    column: usize,
-) -> bool
-    requires ringed { Ringed head.rows head.columns thicknesses.now × (length weights.now ≡ head.rows * head.columns) × Stepped factors }
-    requires le_row { (1 ≤ row) × (row ≤ head.rows) × (1 ≤ column) × (column ≤ head.columns) }
-    ensures { result ≡ not_dominant (formed (gauge_of head weights.now thicknesses.now (pos 0) (by_factors factors))) ((row - 1) * head.columns + (column - 1)) }
+fn not_dominant(film: &Gauged, factors: Factors, row: usize, column: usize) -> bool
+    requires ringed { Ringed film.now × (length film.now.weights ≡ cells film.now.rows film.now.columns) }
+    requires factors { Stepped factors × (factors ≡ factors_of film.now.steps) }
+    requires inside { (1 ≤ row) × (row ≤ film.now.rows) × (1 ≤ column) × (column ≤ film.now.columns) }
+    ensures { result ≡ not_dominant (formed film.now) ((row - 1) * film.now.columns + (column - 1)) }
 {
-    let links = stencil::links_of(forming::around_at(head, thicknesses, row, column), factors);
+    let links = stencil::links_of(forming::around_at(film, row, column), factors);
     let pull = shape::weights::pull(
-        head,
-        weights,
+        film.head,
+        film.weights,
         row,
         column,
         links.left,
@@ -40,46 +32,18 @@ fn not_dominant(
         links.down,
         links.up,
     );
-    let weight = shape::weights::weight_at(head, weights, row, column);
+    let weight = shape::weights::weight_at(film.head, film.weights, row, column);
     cell::product(links.sum, weight) <= pull
 }
 
-// Refusal 9 in a row, at its lowest cell, where the rows before it have passed: so it is that of all rows up to this one.
-fn row_test(head: Head, weights: &[u16], thicknesses: &[u8], factors: Factors, row: usize) -> Tested
-    requires ringed { Ringed head.rows head.columns thicknesses.now × (length weights.now ≡ head.rows * head.columns) × Stepped factors }
-    requires le_row { (1 ≤ row) × (row ≤ head.rows) × (dominance_to (formed (gauge_of head weights.now thicknesses.now (pos 0) (by_factors factors))) (row - 1) ≡ pass) }
-    ensures { check_of result ≡ dominance_to (formed (gauge_of head weights.now thicknesses.now (pos 0) (by_factors factors))) row }
-{
-    let columns = head.columns as usize;
-    let mut i = 0;
-    while i < columns {
-        if not_dominant(head, weights, thicknesses, factors, row, i + 1) {
-            return Tested::Refused(Refusal {
-                fault: Fault::NotDominant,
-                place: shape::index_of(head, row, i + 1),
-            });
-        }
-        i += 1;
-    }
-    Tested::Fine
-}
-
 // Refusal 9, at the lowest cell: sources do not count, so it holds with every wedge number.
-pub fn dominance_test(head: Head, weights: &[u16], thicknesses: &[u8], steps: Steps) -> Tested
-    requires { Ringed head.rows head.columns thicknesses.now × (length weights.now ≡ head.rows * head.columns) × Stepped (factors_of steps) }
-    ensures { (wedge : ℤ) → check_of result ≡ gauge_dominance (gauge_of head weights.now thicknesses.now wedge steps) }
+pub fn dominance_test(film: &Gauged) -> Result<(), Refusal>
+    requires { Ringed film.now × (length film.now.weights ≡ cells film.now.rows film.now.columns) × Stepped (factors_of film.now.steps) }
+    ensures own { check_of result ≡ gauge_dominance film.now }
+    ensures any_wedge { (wedge : ℤ) → check_of result ≡ gauge_dominance (record film.now { wedge = wedge }) }
 {
-    let factors = stencil::factors_of(steps);
-    let rows = head.rows as usize;
-    let mut row = 0;
-    while row < rows {
-        row += 1;
-        match row_test(head, weights, thicknesses, factors, row) {
-            Tested::Fine => {}
-            Tested::Refused(r) => {
-                return Tested::Refused(r);
-            }
-        }
-    }
-    Tested::Fine
+    let factors = stencil::factors_of(film.steps);
+    refusals::first::first_cell(film.head, Fault::NotDominant, |row, column| {
+        not_dominant(film, factors, row, column)
+    })
 }

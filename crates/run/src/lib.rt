@@ -5,49 +5,24 @@
 // Proved: the whole answer with its counts, and the field, are those of crate `model` (run_call).
 #![tactic(auto)]
 
-ghost use Rattle.model.specs.Film.{film_of};
-ghost use Rattle.model.specs.Result.{Gives};
-ghost use Rattle.model.specs.Run.{run_answer_of, run_call};
+ghost use Rattle.model.specs.Result.{answer_as, Gives};
+ghost use Rattle.model.specs.Run.{ran_of, run_call};
 
-use model::{Head, Ran, Tested};
+use model::{Film, Ran, Refusal};
 
 // A run: relaxations by an ordering until nothing rises, the ceiling is passed or the budget is used, with the program's own
 // proposals before them or without.
 pub fn run(
-    head: Head,
-    weights: &[u16],
-    diagonals: &[u32],
-    rights: &[u32],
-    ups: &[u32],
-    sources: &[i64],
+    film: &Film,
     field: &mut [u32],
     budget: u32,
     order: u32,
     proposals: bool,
-) -> Ran
-    ensures { Gives (run_call (film_of head weights.now diagonals.now rights.now ups.now sources.now) budget order proposals field.old) (run_answer_of result) field.new }
+) -> Result<Ran, Refusal>
+    ensures { Gives (run_call film.now budget order proposals field.old) (answer_as ran_of result) field.new }
 {
     let ordered = refusals::order_test(order);
-    match checks::field_tests(
-        head,
-        weights,
-        diagonals,
-        rights,
-        ups,
-        sources,
-        &field[..],
-        true,
-        ordered,
-        Tested::Fine,
-    ) {
-        Tested::Fine => {
-            let accepted = own_proposals::ready(
-                head, weights, diagonals, rights, ups, sources, field, budget, proposals,
-            );
-            ordered_sweep::relaxations(
-                head, diagonals, rights, ups, sources, field, budget, order, accepted,
-            )
-        }
-        Tested::Refused(r) => Ran::Refused(r),
-    }
+    checks::field_tests(film, &field[..], true, ordered, Ok(()))?;
+    let accepted = own_proposals::ready(film, field, budget, proposals);
+    Ok(ordered_sweep::relaxations(film, field, budget, order, accepted))
 }

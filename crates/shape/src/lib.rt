@@ -27,8 +27,8 @@ pub fn ring(rows: u32, columns: u32) -> usize
 
 // The index of cell (row, column).
 pub fn index_of(head: Head, row: usize, column: usize) -> usize
-    requires rows_bound { (head.rows ≤ 32) × (head.columns ≤ 32) }
-    requires le_row { (1 ≤ row) × (row ≤ head.rows) × (1 ≤ column) × (column ≤ head.columns) }
+    requires sides { (head.rows ≤ 32) × (head.columns ≤ 32) }
+    requires inside { (1 ≤ row) × (row ≤ head.rows) × (1 ≤ column) × (column ≤ head.columns) }
     ensures { (result ≡ (row - 1) * head.columns + (column - 1)) × (result < head.rows * head.columns) × (result < 1024) }
 {
     (row - 1) * (head.columns as usize) + (column - 1)

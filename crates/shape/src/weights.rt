@@ -7,8 +7,8 @@ use model::Head;
 
 // The weight of cell (row, column), which run from 1.
 pub fn weight_at(head: Head, weights: &[u16], row: usize, column: usize) -> u32
-    requires rows_bound { (head.rows ≤ 32) × (head.columns ≤ 32) × (length weights.now ≡ head.rows * head.columns) }
-    requires le_row { (1 ≤ row) × (row ≤ head.rows) × (1 ≤ column) × (column ≤ head.columns) }
+    requires sides { (head.rows ≤ 32) × (head.columns ≤ 32) × (length weights.now ≡ head.rows * head.columns) }
+    requires inside { (1 ≤ row) × (row ≤ head.rows) × (1 ≤ column) × (column ≤ head.columns) }
     ensures { result ≡ weight_of head weights.now row column }
 {
     weights[crate::index_of(head, row, column)] as u32
@@ -47,9 +47,9 @@ pub fn pull(
     down: u32,
     up: u32,
 ) -> u64
-    requires rows_bound { (head.rows ≤ 32) × (head.columns ≤ 32) × (length weights.now ≡ head.rows * head.columns) }
-    requires le_row { (1 ≤ row) × (row ≤ head.rows) × (1 ≤ column) × (column ≤ head.columns) }
-    requires left_bound { (left ≤ 2 ^ 29) × (right ≤ 2 ^ 29) × (down ≤ 2 ^ 29) × (up ≤ 2 ^ 29) }
+    requires sides { (head.rows ≤ 32) × (head.columns ≤ 32) × (length weights.now ≡ head.rows * head.columns) }
+    requires inside { (1 ≤ row) × (row ≤ head.rows) × (1 ≤ column) × (column ≤ head.columns) }
+    requires links { (left ≤ 2 ^ 29) × (right ≤ 2 ^ 29) × (down ≤ 2 ^ 29) × (up ≤ 2 ^ 29) }
     ensures { result ≡ weights_pull head weights.now row column left right down up }
 {
     let rows = head.rows as usize;

@@ -9,7 +9,7 @@ ghost use Rattle.std.specs.Prelude.{◌≡◌, cond, ◌+◌, ◌*◌, ◌≤◌
 ghost use Rattle.model.specs.Gauge.{factors_of, Stepped};
 ghost use Rattle.stencil.specs.Cell.{links_by, links_of, source_of, coefficients_of};
 
-use model::{Factors, Steps};
+use model::Factors;
 
 // The thicknesses of a cell and of the four beside it, those of the boundary ring too.
 #[derive(Clone, Copy)]
@@ -40,16 +40,13 @@ pub struct Coefficients {
 }
 
 // What links within a row and links between rows are multiplied by: 1 and 1, unless the film has a field for them.
-pub fn factors_of(steps: Steps) -> Factors
+pub fn factors_of(steps: Option<Factors>) -> Factors
     ensures { result ≡ factors_of steps }
 {
-    match steps {
-        Steps::Absent => Factors {
-            along: 1,
-            across: 1,
-        },
-        Steps::Given(factors) => factors,
-    }
+    steps.unwrap_or(Factors {
+        along: 1,
+        across: 1,
+    })
 }
 
 // The cube of the sum of two thicknesses: at most 510 × 510 × 510.
@@ -84,6 +81,7 @@ fn gathered(left: u32, right: u32, down: u32, up: u32) -> Links
 
 // The links of a cell: cubes, each times the factor of its direction. All of it is worked in 32 bits. Most films have no steps: their links are the
 // cubes, which four products a cell would make slower.
+#[tactic(auto, using(crate::proofs::Fits::cube_low))]
 pub fn links_of(around: Around, factors: Factors) -> Links
     requires { Stepped factors }
     ensures { result ≡ links_of around factors }

@@ -9,29 +9,27 @@ ghost use Rattle.model.specs.Refusals.{check_of};
 ghost use Rattle.model.specs.File.{factors_from, steps_check};
 
 use fault::Fault;
-use model::{Factors, Steps, Tested};
+use model::{Factors, Refusal};
 
 // The limit of model/specs/Limits.
 const STEP_LIMIT: u32 = 4;
 
 // Refusal 15, of two steps at an offset and the next.
-pub fn factors_test(factors: Factors, at: usize) -> Tested
+pub fn factors_test(factors: Factors, at: usize) -> Result<(), Refusal>
     requires { at ≤ 6000000 }
     ensures { check_of result ≡ factors_from factors at }
 {
-    refusals::or_else(
-        refusals::range_test(factors.along, 1, STEP_LIMIT, Fault::BadStep, at),
-        refusals::range_test(factors.across, 1, STEP_LIMIT, Fault::BadStep, at + 1),
-    )
+    refusals::range_test(factors.along, 1, STEP_LIMIT, Fault::BadStep, at)?;
+    refusals::range_test(factors.across, 1, STEP_LIMIT, Fault::BadStep, at + 1)
 }
 
 // The same, of a film's steps.
-pub fn steps_test(steps: Steps, at: usize) -> Tested
+pub fn steps_test(steps: Option<Factors>, at: usize) -> Result<(), Refusal>
     requires { at ≤ 6000000 }
     ensures { check_of result ≡ steps_check steps at }
 {
     match steps {
-        Steps::Absent => Tested::Fine,
-        Steps::Given(factors) => factors_test(factors, at),
+        None => Ok(()),
+        Some(factors) => factors_test(factors, at),
     }
 }

@@ -1,3 +1,2 @@
--- Laws that the proofs of the functions, and other crates, share.
+-- Laws that the proofs of the functions share.
 pub mod Turn
-pub mod Film

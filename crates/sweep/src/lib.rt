@@ -1,15 +1,16 @@
 // Relaxations round and round by an ordering table, until a whole round of them was quiet or the budget is used.
 // Internal: the public calls of Film test their inputs and call it.
 //
-// Proved: the answer, its counts and the field are those of the theory's sweep under the film's rule, read by index.
+// Proved: the answer, its counts and the field are those of the theory's sweep under the film's rule.
 #![tactic(auto)]
 
 ghost use Rattle.std.specs.Prelude.{◌≡◌, ◌<◌, length};
-ghost use Rattle.grid.specs.Pull.{Aligned};
+ghost use Rattle.model.specs.Film.{size_of, rule};
+ghost use Rattle.model.specs.Accepted.{Limited};
 ghost use Rattle.pointwise.specs.Relaxation.{Room};
-ghost use Rattle.relaxation.specs.Rule.{rule_by};
 ghost use Rattle.sweep.specs.Sweep.{Listed, Advanced, Ends};
 
+use model::Film;
 use pointwise::{Counter, Step};
 
 // How a sweep ends.
@@ -20,51 +21,22 @@ pub enum Swept {
     Over(usize, Counter),
 }
 
-fn wide(x: u16) -> usize
-    ensures { result ≡ x }
-{
-    x as usize
-}
-
 // The relaxation of the cell at a place of the table.
-fn advance(
-    diagonals: &[u32],
-    rights: &[u32],
-    ups: &[u32],
-    sources: &[i64],
-    columns: usize,
-    ceiling: u32,
-    table: &[u16],
-    field: &mut [u32],
-    place: usize,
-    c: Counter,
-) -> Step
-    requires aligned { Aligned columns diagonals.now rights.now ups.now sources.now field.old }
-    requires listed { Listed table.now (length field.old) × ((place < length table.now) × Room c) }
-    ensures { Advanced (rule_by (length table.now) ceiling columns diagonals.now rights.now ups.now sources.now) table.now field.old place c result field.new }
+fn advance(film: &Film, table: &[u16], field: &mut [u32], place: usize, c: Counter) -> Step
+    requires limited { Limited film.now × (length field.old ≡ size_of film.now) }
+    requires listed { Listed table.now (size_of film.now) × ((place < length table.now) × Room c) }
+    ensures { Advanced (rule film.now) table.now field.old place c result field.new }
 {
-    let at = wide(table[place]);
-    let after = relaxation::relaxed(
-        diagonals, rights, ups, sources, columns, ceiling, field, at, c,
-    );
+    let at = table[place] as usize;
+    let after = relaxation::relaxed(film, field, at, c);
     pointwise::judged(table.len(), at, after)
 }
 
 // At most as many relaxations as the budget allows, from the start of the table.
-pub fn sweep(
-    diagonals: &[u32],
-    rights: &[u32],
-    ups: &[u32],
-    sources: &[i64],
-    columns: usize,
-    ceiling: u32,
-    table: &[u16],
-    field: &mut [u32],
-    budget: u64,
-) -> Swept
-    requires aligned { Aligned columns diagonals.now rights.now ups.now sources.now field.old }
-    requires listed { Listed table.now (length field.old) × (0 < length field.old) }
-    ensures { Ends (rule_by (length table.now) ceiling columns diagonals.now rights.now ups.now sources.now) table.now budget field.old result field.new }
+pub fn sweep(film: &Film, table: &[u16], field: &mut [u32], budget: u64) -> Swept
+    requires limited { Limited film.now × (length field.old ≡ size_of film.now) }
+    requires listed { Listed table.now (size_of film.now) }
+    ensures { Ends (rule film.now) table.now budget field.old result field.new }
 {
     let mut place = 0;
     let mut counter = Counter {
@@ -72,21 +44,14 @@ pub fn sweep(
         raises: 0,
         quiet: 0,
     };
+    // A `for` would count the visits a second time.
     while counter.visits < budget {
-        let step = advance(
-            diagonals, rights, ups, sources, columns, ceiling, table, field, place, counter,
-        );
+        let step = advance(film, table, field, place, counter);
         place = pointwise::next_place(table.len(), place);
         match step {
-            Step::On(c) => {
-                counter = c;
-            }
-            Step::Done(c) => {
-                return Swept::Done(c);
-            }
-            Step::Over(at, c) => {
-                return Swept::Over(at, c);
-            }
+            Step::On(c) => counter = c,
+            Step::Done(c) => return Swept::Done(c),
+            Step::Over(at, c) => return Swept::Over(at, c),
         }
     }
     Swept::Stopped(counter)

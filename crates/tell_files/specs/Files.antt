@@ -1,12 +1,11 @@
 -- The answers of the calls on files and film numbers, as numbers: what each lent number and array holds at exit, from what it held at
 -- entry.
-use Rattle.std.specs.Prelude.{◌≡◌, List, [], ◌∷◌, ℕ, ℤ, set}
+use Rattle.std.specs.Prelude.{◌≡◌, List, [], ◌∷◌, ℕ, ℤ, set, Option, Some, None}
 use Rattle.model.specs.Result.{Answer, answered, refused, refusal_in}
 use Rattle.model.specs.FileCalls.{LoadAnswer, film}
 use Rattle.model.specs.declared.Head.{Head}
-use Rattle.model.specs.declared.Steps.{Steps}
-use Rattle.model.specs.declared.Steps.TheVariants as variants
 use Rattle.told.specs.Refused.{Told, value_in}
+use Rattle.model.specs.declared.Factors.{Factors}
 
 pub record ReportTold (answer : Answer ℕ) (length place number length' place' : ℕ) : Type 0 where
   pub told : Told (refusal_in answer) place number place'
@@ -22,9 +21,9 @@ wedge_number (answered (film h wedge steps)) old = wedge
 wedge_number (refused number place) old = old
 
 -- whether it has steps, 1 or 0, along, across; the two keep what they held where it has none
-abbrev pub steps_numbers : Steps → List ℕ → List ℕ
-steps_numbers variants.Absent old = set old 0 0
-steps_numbers (variants.Given f) old = 1 ∷ f.along ∷ f.across ∷ []
+abbrev pub steps_numbers : Option Factors → List ℕ → List ℕ
+steps_numbers None old = set old 0 0
+steps_numbers (Some f) old = 1 ∷ f.along ∷ f.across ∷ []
 
 abbrev pub steps_in : Answer LoadAnswer → List ℕ → List ℕ
 steps_in (answered (film h wedge steps)) old = steps_numbers steps old

@@ -1,7 +1,7 @@
 -- Texts one after another in a lent slice.
 use mathlib.Core.Path.{◌≡◌, refl, sym, ap, ◌∙◌}
 use mathlib.Core.Bool.{true, false, true≢false}
-use mathlib.Core.List.{List, [], ◌∷◌, ◌++◌, append-nil}
+use mathlib.Core.List.{List, [], ◌∷◌, ◌++◌, append_assoc, append-nil}
 use Prim.Native.Nat.{ℕ, suc, ◌+◌, ◌≤◌, ◌<◌}
 use native.Mathlib.Nat.{add-zero, zero-add}
 use native.Mathlib.Numerals.{add-one}
@@ -9,8 +9,11 @@ use native.Mathlib.Omega.{arith}
 use lib.IntN.{ℤ, pos, negsuc}
 use lib.Signed.{lt_z}
 use borrow.Author.Tests.{ltb-true}
+use borrow.Rule.Slice.PartMut.{put_mid}
 use lib.ListN.{length, length-append, get_or, set, take, drop}
 use lib.Seq.{sets, sets-eq, length-sets, take-suc, take-length, drop-length}
+use Rattle.std.proofs.lemmas.Slice.{put_mid-paste}
+use Rattle.std.proofs.lemmas.List.Edits.{paste_all}
 use Rattle.model.specs.Integers.{positive_part, negative_part}
 use Rattle.model.specs.Report.{decimal, signed}
 use Rattle.text.specs.Writes.{Fits, Writes}
@@ -24,6 +27,11 @@ module _ {A : Type 0} where
   pub sets_next : (l xs ys : List A) (i place : ℕ) {m k : List A} → m ≡ sets l i xs → k ≡ sets m place ys → place ≡ i + length xs
       → k ≡ sets l i (xs ++ ys)
   sets_next l xs ys i place e f p = f ∙ ap (λ (r : List A). sets r place ys) e ∙ sym (sets_append l xs ys i place p)
+
+-- a part of a list exchanged, as a slice's part that is copied into
+pub put_mid-sets : {A : Type 0} (a k : ℕ) (xs ys zs : List A) → ys ≡ zs → k ≡ length zs → a + length zs ≤ length xs → put_mid a k xs ys ≡ sets xs a zs
+put_mid-sets a k xs ys zs e h l =
+    put_mid-paste a k xs ys zs (length zs) e (sym h) refl ∙ paste_all xs a zs (length zs) refl ∙ sym (simp append_assoc at (sets-eq zs xs a l))
 
 -- the slice is as long as before
 pub writes_length : {text before after : List ℕ} {at next : ℕ} → Writes text before at after next → length after ≡ length before

@@ -5,61 +5,35 @@
 // for them.
 #![tactic(auto)]
 
-ghost use Rattle.std.specs.Prelude.{◌≡◌, not, ◌||◌, List, [], ℕ, ◌*◌, ◌<◌, length};
+ghost use Rattle.std.specs.Prelude.{◌≡◌, not, ◌||◌, ◌<◌, length};
 ghost use Rattle.model.specs.Integers.{at_most_zero};
-ghost use Rattle.model.specs.Film.{film_of, slack};
+ghost use Rattle.model.specs.Film.{size_of, slack};
 ghost use Rattle.model.specs.Accepted.{Limited};
 ghost use Rattle.model.specs.Proposal.{rises, tight};
 ghost use Rattle.tightness.specs.Row.{Row};
 
-use model::Head;
+use model::Film;
 
 // Whether a cell keeps its pressure, or has a slack of at most 0 in the new field.
-fn tight_at(
-    head: Head,
-    diagonals: &[u32],
-    rights: &[u32],
-    ups: &[u32],
-    sources: &[i64],
-    field: &[u32],
-    raised: &[u32],
-    at: usize,
-) -> bool
-    requires by_index { (w : List ℕ) × Limited (film_of head w diagonals.now rights.now ups.now sources.now) }
-    requires field_len { (length field.now ≡ head.rows * head.columns) × (length raised.now ≡ head.rows * head.columns) × (at < head.rows * head.columns) }
-    ensures { result ≡ (not (rises field.now raised.now at) || at_most_zero (slack (film_of head [] diagonals.now rights.now ups.now sources.now) raised.now at)) }
+fn tight_at(film: &Film, field: &[u32], raised: &[u32], at: usize) -> bool
+    requires limited { Limited film.now }
+    requires fields { (length field.now ≡ size_of film.now) × (length raised.now ≡ size_of film.now) × (at < size_of film.now) }
+    ensures { result ≡ (not (rises field.now raised.now at) || at_most_zero (slack film.now raised.now at)) }
 {
-    let pressure = raised[at];
-    if pressure <= field[at] {
-        return true;
-    }
-    let columns = head.columns as usize;
-    grid::cell_at(diagonals, rights, ups, sources, columns, raised, at).slack(pressure) < 1
+    raised[at] <= field[at] || grid::slack_of(film, raised, at) <= 0
 }
 
 // Whether every cell of the row that rises has a slack of at most 0 in the new field.
-pub fn tight_row(
-    head: Head,
-    diagonals: &[u32],
-    rights: &[u32],
-    ups: &[u32],
-    sources: &[i64],
-    field: &[u32],
-    raised: &[u32],
-    start: usize,
-) -> bool
-    requires by_index { (w : List ℕ) × Limited (film_of head w diagonals.now rights.now ups.now sources.now) }
-    requires row { Row head start field.now raised.now }
-    ensures { result ≡ tight (film_of head [] diagonals.now rights.now ups.now sources.now) start field.now raised.now }
+pub fn tight_row(film: &Film, field: &[u32], raised: &[u32], start: usize) -> bool
+    requires limited { Limited film.now }
+    requires row { Row film.now start field.now raised.now }
+    ensures { result ≡ tight film.now start field.now raised.now }
 {
-    let columns = head.columns as usize;
-    let mut column = 0;
-    while column < columns {
-        let at = start + column;
-        if !tight_at(head, diagonals, rights, ups, sources, field, raised, at) {
+    let columns = film.head.columns as usize;
+    for column in 0..columns {
+        if !tight_at(film, field, raised, start + column) {
             return false;
         }
-        column += 1;
     }
     true
 }

@@ -1,9 +1,11 @@
-// How a caller in C is told of a refusal: by its number in document 01's table and its place. Internal: crates `tell` and `tell_files` use it.
+// How a caller in C is told of a refusal: by its number in document 01's table and its place. Internal: crates `tell` and `tell_files` use it, and
+// the exported calls that tell no numbers beside it.
 #![tactic(auto)]
 
 ghost use Rattle.std.specs.Prelude.{◌≡◌};
 ghost use Rattle.fault.specs.Numbers.{number_of};
 ghost use Rattle.model.specs.Refusals.{fail};
+ghost use Rattle.model.specs.Result.{answer_of, refusal_in};
 ghost use Rattle.told.specs.Refused.{Told};
 
 use model::Refusal;
@@ -15,4 +17,14 @@ pub fn refused(refusal: Refusal, place: &mut usize) -> u32
     let fault = refusal.fault;
     *place = refusal.place;
     fault.number()
+}
+
+// The answer of a call whose results are all in its slices.
+pub fn answer(answer: Result<(), Refusal>, place: &mut usize) -> u32
+    ensures { Told (refusal_in (answer_of answer)) place.old result place.new }
+{
+    match answer {
+        Ok(()) => 0,
+        Err(r) => refused(r, place),
+    }
 }

@@ -10,10 +10,10 @@ ghost use Rattle.model.specs.Bytes.{byte_at, word_at, long_at, signed_of};
 ghost use Rattle.model.specs.File.{weights_from, thicknesses_from, wedge_check, factors_from, factors_at};
 
 use fault::Fault;
-use model::{Factors, Refusal, Tested};
+use model::{Factors, Refusal};
 
 // Refusal 4, of the two bytes at `at`.
-pub fn shape_values(file: &[u8], at: usize) -> Tested
+pub fn shape_values(file: &[u8], at: usize) -> Result<(), Refusal>
     requires { at ≤ 6000000 }
     ensures { check_of result ≡ shape_check (byte_at file.now at) at (byte_at file.now (at + 1)) (at + 1) }
 {
@@ -23,7 +23,7 @@ pub fn shape_values(file: &[u8], at: usize) -> Tested
 }
 
 // Refusal 5, of the number at `at`.
-pub fn ceiling_values(file: &[u8], at: usize) -> Tested
+pub fn ceiling_values(file: &[u8], at: usize) -> Result<(), Refusal>
     requires { at ≤ 6000000 }
     ensures { check_of result ≡ ceiling_check (long_at file.now at) at }
 {
@@ -31,26 +31,18 @@ pub fn ceiling_values(file: &[u8], at: usize) -> Tested
 }
 
 // Refusal 6, at the lowest of n weights from `at` on.
-pub fn weight_values(file: &[u8], at: usize, n: usize) -> Tested
+pub fn weight_values(file: &[u8], at: usize, n: usize) -> Result<(), Refusal>
     requires { (at + 2 * n ≤ length file.now) × (at ≤ 6000000) × (n ≤ 65025) }
     ensures { check_of result ≡ weights_from (λ i. word_at file.now (at + 2 * i)) n at }
 {
-    let mut i = 0;
-    while i < n {
+    refusals::first::first_place(n, at, 2, Fault::ZeroWeight, |i| {
         let place = at + 2 * i;
-        if words::numbers::first_word(&file[place..]) == 0 {
-            return Tested::Refused(Refusal {
-                fault: Fault::ZeroWeight,
-                place: place,
-            });
-        }
-        i += 1;
-    }
-    Tested::Fine
+        words::numbers::first_word(&file[place..]) == 0
+    })
 }
 
 // Refusal 7, at the lowest of t thicknesses from `at` on.
-pub fn thickness_values(file: &[u8], at: usize, t: usize) -> Tested
+pub fn thickness_values(file: &[u8], at: usize, t: usize) -> Result<(), Refusal>
     requires { (at + t ≤ length file.now) × (at + t ≤ 6000000) }
     ensures { check_of result ≡ thicknesses_from (λ j. byte_at file.now (at + j)) t at }
 {
@@ -59,7 +51,7 @@ pub fn thickness_values(file: &[u8], at: usize, t: usize) -> Tested
 }
 
 // Refusal 8, of the number at `at`.
-pub fn wedge_values(file: &[u8], at: usize) -> Tested
+pub fn wedge_values(file: &[u8], at: usize) -> Result<(), Refusal>
     requires { at ≤ 6000000 }
     ensures { check_of result ≡ wedge_check (signed_of (long_at file.now at)) at }
 {
@@ -79,7 +71,7 @@ pub fn factors_at(file: &[u8], at: usize) -> Factors
 }
 
 // Refusal 15, of these.
-pub fn steps_values(file: &[u8], at: usize) -> Tested
+pub fn steps_values(file: &[u8], at: usize) -> Result<(), Refusal>
     requires { at ≤ 6000000 }
     ensures { check_of result ≡ factors_from (factors_at file.now at) at }
 {

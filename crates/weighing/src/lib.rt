@@ -5,20 +5,20 @@
 // whose weighted row sums are all at least 1, and 16 means that there are none up to 65,535.
 #![tactic(auto)]
 
-ghost use Rattle.std.specs.Prelude.{◌≡◌, List, [], ℕ, ◌*◌, ◌≤◌, ◌<◌, pos, negsuc, length, get_or, replicate};
+ghost use Rattle.std.specs.Prelude.{◌≡◌, List, [], ℕ, ◌*◌, ◌≤◌, pos, negsuc, length, get_or, replicate, Some};
 ghost use Rattle.model.specs.Refusals.{check_of};
 ghost use Rattle.model.specs.Gauge.{Stepped};
 ghost use Rattle.model.specs.Film.{film_of};
 ghost use Rattle.model.specs.Coefficients.{formed};
 ghost use Rattle.model.specs.Accepted.{Limited};
-ghost use Rattle.model.specs.FileCalls.{gauge_of};
-ghost use Rattle.model.specs.Run.{run_answer_of};
-ghost use Rattle.model.specs.declared.Steps.TheVariants.{Given};
+ghost use Rattle.model.specs.FileCalls.{gauge_of, bare_of};
+ghost use Rattle.model.specs.Run.{ran_of};
+ghost use Rattle.model.specs.Weighing.{searched_check};
 ghost use Rattle.forming.specs.Cell.{Ringed};
-ghost use Rattle.weighing.specs.Searches.{Searchable, searched_by, Searches};
+ghost use Rattle.weighing.specs.Searches.{Searchable, Searches};
 
 use fault::Fault;
-use model::{Factors, Head, Ran, Refusal, Steps, Tested};
+use model::{Factors, Film, Gauged, Head, Ran, Refusal};
 
 // The greatest weight that a file can hold.
 const WEIGHT_LIMIT: u32 = 65535;
@@ -26,44 +26,34 @@ const WEIGHT_LIMIT: u32 = 65535;
 // How many relaxations a search may take.
 const BUDGET: u32 = 4000000;
 
-fn narrow(x: u32) -> u16
-    requires { x ≤ 65535 }
-    ensures { result ≡ x }
-{
-    x as u16
-}
-
 // The numbers of a field, none above the greatest weight, as weights.
 fn put_found(field: &[u32], weights: &mut [u16])
     requires { (length field.now ≡ length weights.old) × ((i : ℕ) → get_or field.now i 0 ≤ 65535) }
     ensures { weights.new ≡ field.now }
 {
-    let mut i = 0;
-    while i < field.len() {
-        weights[i] = narrow(field[i]);
-        i += 1;
+    for (i, number) in field.iter().enumerate() {
+        weights[i] = *number as u16;
     }
 }
 
 // How a search ended, as a test: Done passes.
-fn outcome(ran: Ran) -> Tested
-    ensures { check_of result ≡ searched_by (run_answer_of ran) }
+fn outcome(ran: Ran) -> Result<(), Refusal>
+    ensures { check_of result ≡ searched_check (ran_of ran) }
 {
     match ran {
-        Ran::Done(_c) => Tested::Fine,
-        Ran::Over(cell, _c) => Tested::Refused(Refusal {
+        Ran::Done(_) => Ok(()),
+        Ran::Over(cell, _) => Err(Refusal {
             fault: Fault::NoWeights,
             place: cell,
         }),
-        Ran::Stopped(_c) => Tested::Refused(Refusal {
+        Ran::Stopped(_) => Err(Refusal {
             fault: Fault::WeightsNotFound,
             place: 0,
         }),
-        Ran::Refused(r) => Tested::Refused(r),
     }
 }
 
-// The search from a field of zeros, with the sources that it has: weights are written where it is Done.
+// The search from a field of zeros, with the sources that it has: weights are written where it is Done. What these are before does not count.
 fn search_from(
     head: Head,
     diagonals: &[u32],
@@ -72,36 +62,37 @@ fn search_from(
     sources: &[i64],
     field: &mut [u32],
     weights: &mut [u16],
-) -> Tested
+) -> Result<(), Refusal>
     requires searchable { Searchable head diagonals.now rights.now ups.now × (length weights.old ≡ head.rows * head.columns) }
-    requires sources_value { (sources.now ≡ replicate (head.rows * head.columns) (negsuc 0)) × (field.old ≡ replicate (head.rows * head.columns) 0) }
+    requires zeros { (sources.now ≡ replicate (head.rows * head.columns) (negsuc 0)) × (field.old ≡ replicate (head.rows * head.columns) 0) }
     ensures { Searches (film_of head [] diagonals.now rights.now ups.now []) result weights.new }
 {
-    let weighing = Head {
-        rows: head.rows,
-        columns: head.columns,
-        ceiling: WEIGHT_LIMIT,
+    let film = Film {
+        head: Head {
+            rows: head.rows,
+            columns: head.columns,
+            ceiling: WEIGHT_LIMIT,
+        },
+        weights: &weights[..],
+        diagonals,
+        rights,
+        ups,
+        sources,
     };
-    let ran = ordered_sweep::relaxations(
-        weighing, diagonals, rights, ups, sources, field, BUDGET, 0, 0,
-    );
-    match outcome(ran) {
-        Tested::Fine => {
-            put_found(&field[..], weights);
-            Tested::Fine
-        }
-        Tested::Refused(r) => Tested::Refused(r),
-    }
+    let ran = ordered_sweep::relaxations(&film, field, BUDGET, 0, 0);
+    outcome(ran)?;
+    put_found(&field[..], weights);
+    Ok(())
 }
 
-// The search on a film's coefficients, which are within their limits.
+// The search on a film's coefficients, which are within their limits. They come without weights, which are what is looked for.
 pub fn search(
     head: Head,
     diagonals: &[u32],
     rights: &[u32],
     ups: &[u32],
     weights: &mut [u16],
-) -> Tested
+) -> Result<(), Refusal>
     requires { Searchable head diagonals.now rights.now ups.now × (length weights.old ≡ head.rows * head.columns) }
     ensures { Searches (film_of head [] diagonals.now rights.now ups.now []) result weights.new }
 {
@@ -125,25 +116,23 @@ pub fn search_gauged(
     thicknesses: &[u8],
     factors: Factors,
     weights: &mut [u16],
-) -> Tested
-    requires ringed { Ringed head.rows head.columns thicknesses.now × Stepped factors × (length weights.old ≡ head.rows * head.columns) }
-    requires by_index { (w : List ℕ) × Limited (formed (gauge_of head w thicknesses.now (pos 0) (Given factors))) }
-    ensures { Searches (formed (gauge_of head [] thicknesses.now (pos 0) (Given factors))) result weights.new }
+) -> Result<(), Refusal>
+    requires ringed { Ringed (bare_of head thicknesses.now) × Stepped factors × (length weights.old ≡ head.rows * head.columns) }
+    requires limited { (w : List ℕ) × Limited (formed (gauge_of head w thicknesses.now (pos 0) (Some factors))) }
+    ensures { Searches (formed (gauge_of head [] thicknesses.now (pos 0) (Some factors))) result weights.new }
 {
     let n = weights.len();
     let mut diagonals = [0u32; 1024];
     let mut rights = [0u32; 1024];
     let mut ups = [0u32; 1024];
     let mut sources = [0i64; 1024];
-    forming::form(
+    let film = Gauged {
         head,
+        weights: &[],
         thicknesses,
-        0,
-        Steps::Given(factors),
-        &mut diagonals,
-        &mut rights,
-        &mut ups,
-        &mut sources,
-    );
+        wedge: 0,
+        steps: Some(factors),
+    };
+    forming::form(&film, &mut diagonals, &mut rights, &mut ups, &mut sources);
     search(head, &diagonals[..n], &rights[..n], &ups[..n], weights)
 }

@@ -1,4 +1,3 @@
 -- Laws that the proofs of the functions, and other crates, share.
 pub mod Stores
-pub mod Signed
 pub mod Rest

@@ -1,4 +1,5 @@
 -- A film's file in a slice: five fields, one after another, and the optional one where the film has it, fill it.
+use Rattle.std.specs.Prelude.{Option, Some, None}
 use mathlib.Core.Path.{◌≡◌, refl, sym, ◌∙◌}
 use mathlib.Core.List.{List, [], ◌∷◌, ◌++◌, append_assoc}
 use Prim.Native.Nat.{ℕ, ◌+◌, ◌*◌, ◌≤◌}
@@ -11,32 +12,21 @@ use Rattle.model.specs.Gauge.{Gauge}
 use Rattle.model.specs.Bytes.{long, unsigned_of}
 use Rattle.model.specs.Fields.{fields_end, field, bytes_of, present, givens}
 use Rattle.model.specs.File.{cells, ringed, gauged, gauged_optional, end_offset, steps_part, weight_bytes, bodies, parts, gauged_end, file_of}
-use Rattle.model.specs.declared.Steps.{Steps}
-use Rattle.model.specs.declared.Steps.TheVariants as steps
+use Rattle.model.specs.declared.Factors.{Factors}
 use Rattle.text.proofs.Writes.{sets_next, sets_whole}
 use Rattle.model.proofs.Codes.{word_code, listed_length}
 use Rattle.writing.specs.Writable.{steps_bytes, file_length, Writable}
 
--- the field of the steps has at most five bytes, and ends behind them
-pub steps_few : (s : Steps) → length (steps_bytes s) ≤ 5
-steps_few steps.Absent = omega arith
-steps_few (steps.Given f) = omega arith
-
-steps_end : (s : Steps) (at : ℕ) → fields_end (present gauged_optional (steps_part s ∷ [])) at ≡ at + length (steps_bytes s)
-steps_end steps.Absent at = omega arith
-steps_end (steps.Given f) at = omega arith
+-- the field of the steps ends behind its bytes
+steps_end : (s : Option Factors) (at : ℕ) → fields_end (present gauged_optional (steps_part s ∷ [])) at ≡ at + length (steps_bytes s)
+steps_end None at = omega arith
+steps_end (Some f) at = omega arith
 
 pub length_known : (g : Gauge) → g.rows ≤ side_limit → g.columns ≤ side_limit → file_length g.rows g.columns g.steps ≡ gauged_end g
 unfolding file_length
 length_known g h l = rw (le-ltb side_limit g.rows h, le-ltb side_limit g.columns l) (sym (steps_end g.steps _))
 
--- the same as a sum
-pub length_sum : (rows columns : ℕ) (s : Steps) → rows ≤ side_limit → columns ≤ side_limit
-    → file_length rows columns s ≡ 25 + 2 * cells rows columns + ringed rows columns + length (steps_bytes s)
-unfolding file_length
-length_sum rows columns s h l = rw (le-ltb side_limit rows h, le-ltb side_limit columns l) (omega arith)
-
--- and as a slice of the file's length has it
+-- as a slice of the file's length has it
 pub film_length : (g : Gauge) → gauged_end g ≡ end_offset (cells g.rows g.columns) (ringed g.rows g.columns) + length (steps_bytes g.steps)
 film_length g = steps_end g.steps _
 

@@ -1,17 +1,17 @@
 -- The bytes of a film's optional field, the length of its file, and what the writer needs to begin.
-use Rattle.std.specs.Prelude.{◌≡◌, cond, ◌||◌, List, [], ◌∷◌, ℕ, ◌+◌, ◌≤◌, ltb, length}
+use Rattle.std.specs.Prelude.{◌≡◌, cond, ◌||◌, List, [], ◌∷◌, ℕ, ◌+◌, ◌≤◌, ltb, length, Option}
 use Rattle.model.specs.Limits.{side_limit}
 use Rattle.model.specs.Gauge.{Gauge, factors_of, Stepped}
 use Rattle.model.specs.Fields.{bytes_of, present, givens}
 use Rattle.model.specs.File.{cells, ringed, gauged_optional, end_offset, steps_part}
-use Rattle.model.specs.declared.Steps.{Steps}
+use Rattle.model.specs.declared.Factors.{Factors}
 
 -- those of field 0A, or none
-abbrev pub steps_bytes : Steps → List ℕ
+abbrev pub steps_bytes : Option Factors → List ℕ
 steps_bytes steps = bytes_of (present gauged_optional (steps_part steps ∷ [])) (givens (steps_part steps ∷ []))
 
 -- 0 where a side is beyond its limit
-unfoldable pub file_length : ℕ → ℕ → Steps → ℕ
+unfoldable pub file_length : ℕ → ℕ → Option Factors → ℕ
 file_length rows columns steps =
     cond (ltb side_limit rows || ltb side_limit columns) 0 (end_offset (cells rows columns) (ringed rows columns) + length (steps_bytes steps))
 

@@ -11,10 +11,9 @@ ghost use Rattle.model.specs.Gauge.{factors_of, Stepped};
 ghost use Rattle.model.specs.Bytes.{long};
 ghost use Rattle.model.specs.Fields.{field};
 ghost use Rattle.model.specs.File.{weight_bytes, file_of};
-ghost use Rattle.model.specs.FileCalls.{gauge_of};
 ghost use Rattle.writing.specs.Writable.{steps_bytes, file_length, Writable};
 
-use model::{Head, Steps};
+use model::{Factors, Gauged};
 
 // The field of two numbers of a byte.
 fn put_pair(out: &mut [u8], at: usize, tag: u8, first: u32, second: u32)
@@ -62,58 +61,44 @@ fn put_thicknesses(out: &mut [u8], at: usize, thicknesses: &[u8])
 }
 
 // The field of the steps, if the film has one.
-fn put_steps(out: &mut [u8], at: usize, steps: Steps)
+fn put_steps(out: &mut [u8], at: usize, steps: Option<Factors>)
     requires { (at + length (steps_bytes steps) ≤ length out.old) × Stepped (factors_of steps) }
     ensures { out.new ≡ sets out.old at (steps_bytes steps) }
 {
-    match steps {
-        Steps::Absent => {}
-        Steps::Given(factors) => put_pair(out, at, 10, factors.along, factors.across),
+    if let Some(factors) = steps {
+        put_pair(out, at, 10, factors.along, factors.across);
     }
 }
 
 // Its length, or 0.
-fn steps_length(steps: Steps) -> usize
+fn steps_length(steps: Option<Factors>) -> usize
     ensures { result ≡ length (steps_bytes steps) }
 {
-    match steps {
-        Steps::Absent => 0,
-        Steps::Given(_) => 5,
-    }
+    if steps.is_some() { 5 } else { 0 }
 }
 
 // The length of the file of a film with so many rows and columns, and steps or none; 0 if a side is beyond its limit.
-pub fn file_length(rows: u32, columns: u32, steps: Steps) -> usize
+#[tactic(auto, unfolding(crate::specs::Writable::file_length))]
+pub fn file_length(rows: u32, columns: u32, steps: Option<Factors>) -> usize
     ensures { result ≡ file_length rows columns steps }
 {
-    if (32 < rows) | (32 < columns) {
+    if 32 < rows || 32 < columns {
         return 0;
     }
     25 + 2 * shape::area(rows, columns) + shape::ring(rows, columns) + steps_length(steps)
 }
 
 // Writes a film's file, field by field.
-pub fn put_film(
-    head: Head,
-    weights: &[u16],
-    thicknesses: &[u8],
-    wedge: i32,
-    steps: Steps,
-    out: &mut [u8],
-)
-    requires { Writable (gauge_of head weights.now thicknesses.now wedge steps) out.old }
-    ensures { out.new ≡ file_of (gauge_of head weights.now thicknesses.now wedge steps) }
+pub fn put_film(film: &Gauged, out: &mut [u8])
+    requires { Writable film.now out.old }
+    ensures { out.new ≡ file_of film.now }
 {
-    let end = 15 + 2 * weights.len(); // behind the weights
-    put_shape(out, head.rows, head.columns);
-    put_number(out, 5, 2, head.ceiling);
-    put_weights(out, 12, weights);
-    put_thicknesses(out, end, thicknesses);
-    put_number(
-        out,
-        end + 3 + thicknesses.len(),
-        5,
-        words::numbers::unsigned(wedge),
-    );
-    put_steps(out, end + 3 + thicknesses.len() + 7, steps);
+    let end = 15 + 2 * film.weights.len(); // behind the weights
+    let last = end + 3 + film.thicknesses.len(); // behind the thicknesses
+    put_shape(out, film.head.rows, film.head.columns);
+    put_number(out, 5, 2, film.head.ceiling);
+    put_weights(out, 12, film.weights);
+    put_thicknesses(out, end, film.thicknesses);
+    put_number(out, last, 5, words::numbers::unsigned(film.wedge));
+    put_steps(out, last + 7, film.steps);
 }

@@ -1,18 +1,29 @@
 -- `coefficient_file::read` meets its contract: buffers and fields are tested before 14 and 9 (`load_parts`), and what passes is read.
-use mathlib.Core.Path.{◌≡◌, sym, ap, ◌∙◌}
+use mathlib.Core.Path.{sym, ap, ◌∙◌}
+use Rattle.std.proofs.lemmas.Result.{err_from_is_err_and}
 use Rattle.model.specs.Refusals.{check_of}
-use Rattle.refusals.proofs.Chain.{joined, passed}
-use Rattle.coefficient_file.proofs.Reading.{opening, load_opened, load_refused}
+use Rattle.refusals.proofs.Chain.{passed}
+use Rattle.coefficient_file.proofs.Reading.{opening_passes, load_opened, load_refused}
 use Rattle.coefficient_file.proofs.read.Goals as goal
 
-pub returns-in-Fine : goal.returns-in-Fine
-returns-in-Fine c =
-    let tested : let a = c.args in check_of c.or_else.result ≡ opening a.file.now a.weights.now a.diagonals.now a.rights.now a.ups.now a.sources.now = joined c.or_else.ensures c.fail_if-buffers.ensures c.fields_test.ensures in
+pub returns-in_err-opening_test : goal.returns-in_err-opening_test
+returns-in_err-opening_test c =
     let a = c.args in
-    load_opened a.file.now a.weights.now a.diagonals.now a.rights.now a.ups.now a.sources.now (passed tested c.in-Fine.is) c.read_fields.ensures
+    let p = err_from_is_err_and c.from_residual.result c.from_residual.ensures.1 in
+    rw (p.1, p.2)
+    (load_refused a.file.now a.weights.now a.diagonals.now a.rights.now a.ups.now a.sources.now (sym c.opening_test.ensures ∙ ap check_of c.in_err-opening_test.was))
 
-pub returns-in-Refused : goal.returns-in-Refused
-returns-in-Refused c =
-    let tested : let a = c.args in check_of c.or_else.result ≡ opening a.file.now a.weights.now a.diagonals.now a.rights.now a.ups.now a.sources.now = joined c.or_else.ensures c.fail_if-buffers.ensures c.fields_test.ensures in
+pub read_fields-requires-clause-fields : goal.read_fields-requires-clause-fields
+read_fields-requires-clause-fields c =
     let a = c.args in
-    load_refused a.file.now a.weights.now a.diagonals.now a.rights.now a.ups.now a.sources.now (sym tested ∙ ap check_of c.in-Refused.is)
+    (opening_passes a.file.now a.weights.now a.diagonals.now a.rights.now a.ups.now a.sources.now (passed c.opening_test.ensures c.in_ok-opening_test.was)).0
+
+pub read_fields-requires-clause-buffers : goal.read_fields-requires-clause-buffers
+read_fields-requires-clause-buffers c =
+    let a = c.args in
+    (opening_passes a.file.now a.weights.now a.diagonals.now a.rights.now a.ups.now a.sources.now (passed c.opening_test.ensures c.in_ok-opening_test.was)).1
+
+pub returns : goal.returns
+returns c =
+    let a = c.args in
+    load_opened a.file.now a.weights.now a.diagonals.now a.rights.now a.ups.now a.sources.now (passed c.opening_test.ensures c.in_ok-opening_test.was) c.read_fields.ensures

@@ -1,17 +1,14 @@
--- `dominance::dominance_test` meets its contract: a search row by row (`RowsPassed`), where a row that fails fails for all rows, and past the last all pass.
-use mathlib.Core.Bool.{Bool}
-use Prim.Native.Nat.{ℕ, ◌-◌}
+-- `dominance::dominance_test` meets its contract: the closure that it hands to the search answers as `not_dominant` at each cell.
+use Rattle.std.proofs.Common.{◌≡◌, ◌*◌, ap, ◌∙◌, rules}
+use Rattle.model.specs.Refusals.{fail_first}
+use Rattle.model.specs.Film.{Film}
 use Rattle.model.specs.Checks.{not_dominant, dominance_check}
-use Rattle.refusals.specs.Parts.{sourceless}
-use Rattle.refusals.proofs.Rows.{rows_fail, rows_pass}
 use Rattle.dominance.proofs.dominance_test.Goals as goal
-
-pub returns-in-Refused : goal.returns-in-Refused
-unfolding dominance_check
-returns-in-Refused c =
-    let bad : ℕ → Bool = let a = c.args in not_dominant (sourceless a.head a.weights.now a.diagonals.now a.rights.now a.ups.now) in
-    rows_fail bad 9 c.args.head.columns c.args.head.rows c.loop-row-test.true c.row_test.ensures c.in-Refused.is
 
 pub returns : goal.returns
 unfolding dominance_check
-returns c = rows_pass _ _ _ _ c.loop-row.invariant c.loop-row-test.false
+returns c =
+    let f : Film = c.args.film.now in
+    let columns : c.film.inside.head.columns ≡ f.columns = ap (λ (g : Film). g.columns) c.film.view_is in
+    c.first_cell.ensures (not_dominant f) (λ row column i answer e. rw columns (search rules))
+    ∙ ap (λ (g : Film). fail_first (not_dominant f) (g.rows * g.columns) 9 (λ i. i)) c.film.view_is

@@ -5,9 +5,8 @@ use Prim.Native.Nat.{ℕ, ◌-◌, ◌≤◌}
 use native.Mathlib.Omega.{arith}
 use borrow.Author.Tests.{le-ltb}
 use lib.Dec.{ltb}
-use Rattle.model.specs.Film.{Film, diagonal_at, right_at, up_at}
+use Rattle.model.specs.Film.{Film, film_of, diagonal_at, right_at, up_at}
 use Rattle.model.proofs.Sides.{index, Inside, row_end, Linked, row_sum}
-use Rattle.refusals.specs.Parts.{sourceless}
 use Rattle.dominance.proofs.not_dominant.Goals as goal
 
 -- the links that the code reads are those of the cell: one back counts only where there is a cell
@@ -25,8 +24,11 @@ links_read f {r} {c} {at} w p l d =
 
 pub returns : goal.returns
 returns c =
-    let film : Film = let a = c.args in sourceless a.head a.weights.now a.diagonals.now a.rights.now a.ups.now in
+    let film : Film =
+    let f = c.film.inside in film_of f.head f.weights.now f.diagonals.now f.rights.now f.ups.now f.sources.now in
+    let rows : film.rows ≡ c.args.film.now.rows = ap (λ (f : Film). f.rows) c.film.view_is in
+    let columns : film.columns ≡ c.args.film.now.columns = ap (λ (f : Film). f.columns) c.film.view_is in
     let i = c.index_of-at.ensures.0 in
-    let w : Inside film c.args.row c.args.column = omega (arith, c.requires.le_row) in
-    rw (c.product.ensures, c.weight_at-weight.ensures, c.pull-pull.ensures)
+    let w : Inside film c.args.row c.args.column = omega (arith, c.requires.inside, rows, columns) in
+    rw (sym c.film.view_is, c.product.ensures, c.weight_at-weight.ensures, c.pull-pull.ensures)
     (row_sum film w (ap (diagonal_at film) (sym i)) (links_read film w i c.link_back-left.ensures c.link_back-down.ensures))

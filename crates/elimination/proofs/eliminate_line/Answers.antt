@@ -1,22 +1,23 @@
--- `elimination::eliminate_line` meets its contract: after each turn the steps so far are the model's and kept, none of them broken, and the last one
--- is handed on (`Going`). A broken step ends the loop, since each later one of the model is broken too (`going_broken`).
-use mathlib.Core.Path.{refl, sym, ◌∙◌}
-use Prim.Native.Nat.{◌-◌}
-use lib.Ieee.{of_bits, of_int}
+-- `elimination::eliminate_line` meets its contract: a broken step ends the loop, since each later one of the model is broken too (`going_broken`).
+use mathlib.Core.Path.{◌≡◌, sym, ap, ◌∙◌}
+use native.Mathlib.Omega.{arith}
+use mathlib.Core.Bool.{false}
+use Rattle.model.specs.Film.{Film}
+use Rattle.model.specs.Estimate.{is_broken}
+use Rattle.chain.specs.Line.{elimination_of}
 use Rattle.elimination.proofs.Forward.{going_begin, going_next, going_broken}
 use Rattle.elimination.proofs.eliminate_line.Goals as goal
 
 pub loop-j-init : goal.loop-j-init
-unfolding of_bits of_int
-loop-j-init c = going_begin _ _ _ _ _ _ refl
+loop-j-init c = going_begin _ _ _ _
 
 pub returns-then-is_broken : goal.returns-then-is_broken
 returns-then-is_broken c =
-    going_broken _ _ _ c.loop-j.invariant c.loop-j-test.true c.step-here.ensures refl (sym c.is_broken.ensures ∙ c.if-is_broken.true)
+    going_broken _ _ _ _ c.loop-j.invariant c.step-here.ensures (omega (arith, ap (λ (f : Film). f.columns) c.film.view_is))
+    (sym c.is_broken.ensures ∙ c.if-is_broken.true)
 
 pub loop-j-preserved : goal.loop-j-preserved
 loop-j-preserved c =
-    let P = c.requires.columns_in_bounds in
-    going_next _ _ _ c.loop-j.invariant c.loop-j-test.true c.step-here.ensures P.0 P.1
-    (sym c.is_broken.ensures ∙ c.if-is_broken.false)
-    c.kept-preceding.ensures
+    let whole : is_broken (elimination_of c.step-here.result) ≡ false = sym c.is_broken.ensures ∙ c.if-is_broken.false in
+    going_next _ _ _ _ c.loop-j.invariant c.step-here.ensures (omega (arith, ap (λ (f : Film). f.columns) c.film.view_is)) whole
+    (c.handed_on-preceding.ensures whole)

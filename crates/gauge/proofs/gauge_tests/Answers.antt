@@ -1,18 +1,27 @@
--- `gauge::gauge_tests` meets its contract: the shape's test, and where it passes `sized_tests`, are the model's tests in its order (`gauge_parts`).
-use mir.Facts.{to_z-of_z}
-use Rattle.model.specs.Gauge.{Gauge}
-use Rattle.model.specs.FileCalls.{gauge_of}
-use Rattle.gauge.proofs.Tests.{gauge_parts}
+-- `gauge::gauge_tests` meets its contract: the tests of shape and lengths are the model's, and with those of the values in its order (`gauge_parts`).
+use Rattle.std.proofs.lemmas.Result.{err_from_is_err_and}
 use Rattle.refusals.proofs.Chain.{goes_on, refuses}
+use Rattle.gauge.proofs.Tests.{shape_is, lengths_are, gauge_parts}
 use Rattle.gauge.proofs.gauge_tests.Goals as goal
 
-pub returns-in-Fine : goal.returns-in-Fine
-returns-in-Fine c =
-    let film : Gauge = gauge_of c.args.head c.args.weights.now c.args.thicknesses.now c.args.wedge c.args.steps in
-    gauge_parts film c.args.fits
-    (goes_on c.shape_test.ensures c.in-Fine.is (rw (to_z-of_z c.ranges.wedge) at c.sized_tests.ensures))
+pub returns-in_err-shape_test : goal.returns-in_err-shape_test
+returns-in_err-shape_test c =
+    let p = err_from_is_err_and c.from_residual.result c.from_residual.ensures.1 in
+    rw (p.1, p.2)
+    (gauge_parts c.args.film.now c.args.fits (refuses (shape_is c.film.view_is c.shape_test.ensures) _ c.in_err-shape_test.was))
 
-pub returns-in-Refused : goal.returns-in-Refused
-returns-in-Refused c =
-    let film : Gauge = gauge_of c.args.head c.args.weights.now c.args.thicknesses.now c.args.wedge c.args.steps in
-    gauge_parts film c.args.fits (refuses c.shape_test.ensures _ c.in-Refused.is)
+pub returns-in_err-fail_if : goal.returns-in_err-fail_if
+returns-in_err-fail_if c =
+    let g = c.args.film.now in
+    let p = err_from_is_err_and c.from_residual-in_err-fail_if.result c.from_residual-in_err-fail_if.ensures.1 in
+    rw (p.1, p.2)
+    (gauge_parts g c.args.fits
+    (goes_on (shape_is c.film.view_is c.shape_test.ensures) c.in_ok-shape_test.was
+    (refuses (lengths_are g c.args.fits c.gauge_fits.ensures c.fail_if.ensures) _ c.in_err-fail_if.was)))
+
+pub returns : goal.returns
+returns c =
+    let g = c.args.film.now in
+    gauge_parts g c.args.fits
+    (goes_on (shape_is c.film.view_is c.shape_test.ensures) c.in_ok-shape_test.was
+    (goes_on (lengths_are g c.args.fits c.gauge_fits.ensures c.fail_if.ensures) c.in_ok-fail_if.was c.value_tests.ensures))

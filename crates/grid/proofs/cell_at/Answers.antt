@@ -1,12 +1,15 @@
--- `grid::cell_at` meets its contract: the pull is `pull_at`'s, diagonal and source are read at the index, and the caller grants their limits (`loads`).
-use mir.Facts.{to_z-of_z}
-use borrow.Author.Rules.{sfits_of}
-use Rattle.grid.specs.Pull.{cell_by}
-use Rattle.grid.proofs.Pull.{loads}
+-- `grid::cell_at` meets its contract: the pull is `pull_at`'s, diagonal and source are read at the index, and the film's limits are the cell's (`loads`).
+use mathlib.Core.Path.{ap, ◌∙◌}
+use borrow.Author.Rules.{rules}
+use Rattle.model.specs.Film.{Film, diagonal_at, source_at}
+use Rattle.grid.specs.Pull.{pull_by}
+use Rattle.grid.proofs.Limited.{loads}
 use Rattle.grid.proofs.cell_at.Goals as goal
 
 pub returns : goal.returns
-unfolding cell_by
 returns c =
-    loads c.args.at _ c.requires.0 c.requires.1 (rw (to_z-of_z (sfits_of c.result-1.given), c.pull_at-pull.ensures.0))
-    c.pull_at-pull.ensures.1
+    let v = c.film.view_is in
+    loads c.requires.limited c.args.numbers.now c.args.at _ c.requires.numbers.1 (ap (λ (f : Film). diagonal_at f c.args.at) v)
+    (c.pull_at.ensures.0 ∙ ap (λ (f : Film). pull_by f.columns f.rights f.ups c.args.numbers.now c.args.at) v)
+    c.pull_at.ensures.1
+    ((search rules) ∙ ap (λ (f : Film). source_at f c.args.at) v)

@@ -1,17 +1,14 @@
--- `limits::coefficient_test` meets its contract: a search row by row (`RowsPassed`), where the first row refused decides for all, and past the last all have passed.
-use mathlib.Core.Bool.{Bool}
-use Prim.Native.Nat.{ℕ, ◌-◌}
+-- `limits::coefficient_test` meets its contract: the closure that it hands to the search answers as `bad_coefficient` at each cell.
+use Rattle.std.proofs.Common.{◌≡◌, ◌*◌, ap, ◌∙◌, rules}
+use Rattle.model.specs.Refusals.{fail_first}
+use Rattle.model.specs.Film.{Film}
 use Rattle.model.specs.Checks.{bad_coefficient, coefficient_check}
-use Rattle.refusals.specs.Parts.{unweighted}
-use Rattle.refusals.proofs.Rows.{rows_fail, rows_pass}
 use Rattle.limits.proofs.coefficient_test.Goals as goal
-
-pub returns-in-Refused : goal.returns-in-Refused
-unfolding coefficient_check
-returns-in-Refused c =
-    let bad : ℕ → Bool = let a = c.args in bad_coefficient (unweighted a.head a.diagonals.now a.rights.now a.ups.now a.sources.now) in
-    rows_fail bad 14 c.args.head.columns c.args.head.rows c.loop-row-test.true c.row_test.ensures c.in-Refused.is
 
 pub returns : goal.returns
 unfolding coefficient_check
-returns c = rows_pass _ _ _ _ c.loop-row.invariant c.loop-row-test.false
+returns c =
+    let f : Film = c.args.film.now in
+    let columns : c.film.inside.head.columns ≡ f.columns = ap (λ (g : Film). g.columns) c.film.view_is in
+    c.first_cell.ensures (bad_coefficient f) (λ row column i answer e. rw columns (search rules))
+    ∙ ap (λ (g : Film). fail_first (bad_coefficient f) (g.rows * g.columns) 14 (λ i. i)) c.film.view_is

@@ -1,64 +1,37 @@
--- `line_estimate::estimate` meets its contract: its tests are the model's, in its order, and what passes them is estimated with the film's margin from the
--- line's first cell on.
+-- `line_estimate::estimate` meets its contract: what passes its tests is estimated with the film's margin from the line's first cell on.
 use mathlib.Core.Path.{◌≡◌, sym, ap, ◌∙◌}
+use Prim.Native.Nat.{◌-◌, ◌*◌}
 use native.Mathlib.Omega.{arith}
-use Rattle.model.specs.Refusals.{pass, check_of}
-use Rattle.model.specs.Film.{Film, film_of}
-use Rattle.model.proofs.Bare.{margin_sourceless}
-use Rattle.model.specs.Proposal.{row_check}
-use Rattle.line_checks.proofs.Passed.{LinePassed, line_ready}
+use Rattle.model.specs.Film.{Film}
+use Rattle.line_checks.proofs.Passed.{line_ready}
 use Rattle.line_estimate.proofs.estimate.Goals as goal
 
-pub line_start-first-requires : goal.line_start-first-requires
-line_start-first-requires c =
-    let film : Film = let a = c.args in film_of a.head a.weights.now a.diagonals.now a.rights.now a.ups.now a.sources.now in
-    let tested : let a = c.args in check_of c.line_tests.result ≡ row_check film a.field.now a.proposal.now a.line = c.line_tests.ensures in
-    let passed : let a = c.args in row_check film a.field.now a.proposal.now a.line ≡ pass = sym tested ∙ ap check_of c.in-Fine.is in
-    let ready : let a = c.args in LinePassed film a.field.now a.proposal.now a.line = let a = c.args in line_ready film a.field.now a.proposal.now a.line passed in
-    let R = ready in
+pub line_start-start-requires : goal.line_start-start-requires
+line_start-start-requires c =
+    let a = c.args in
+    let R = line_ready a.film.now a.field.now a.proposal.now a.line (sym c.in_ok-line_tests.ensures) in
     let S = R.film.limited.sized in
-    (R.line_some, (omega (arith, R.line_low, S.rows_low), omega (arith, S.rows_low, S.columns_low)))
+    let columns : c.film.inside.head.columns ≡ a.film.now.columns = ap (λ (f : Film). f.columns) c.film.view_is in
+    (R.line_some, (omega (arith, R.line_low, S.rows_low), omega (arith, columns, S.columns_low)))
 
-pub margin-margin-requires : goal.margin-margin-requires
-margin-margin-requires c =
-    let film : Film = let a = c.args in film_of a.head a.weights.now a.diagonals.now a.rights.now a.ups.now a.sources.now in
-    let tested : let a = c.args in check_of c.line_tests.result ≡ row_check film a.field.now a.proposal.now a.line = c.line_tests.ensures in
-    let passed : let a = c.args in row_check film a.field.now a.proposal.now a.line ≡ pass = sym tested ∙ ap check_of c.in-Fine.is in
-    let ready : let a = c.args in LinePassed film a.field.now a.proposal.now a.line = let a = c.args in line_ready film a.field.now a.proposal.now a.line passed in
-    (c.args.sources.now, ready.film)
+pub margin-requires : goal.margin-requires
+margin-requires c =
+    let a = c.args in
+    (line_ready a.film.now a.field.now a.proposal.now a.line (sym c.in_ok-line_tests.ensures)).film
 
 pub estimate-requires-clause-accepted : goal.estimate-requires-clause-accepted
 estimate-requires-clause-accepted c =
-    let film : Film = let a = c.args in film_of a.head a.weights.now a.diagonals.now a.rights.now a.ups.now a.sources.now in
-    let tested : let a = c.args in check_of c.line_tests.result ≡ row_check film a.field.now a.proposal.now a.line = c.line_tests.ensures in
-    let passed : let a = c.args in row_check film a.field.now a.proposal.now a.line ≡ pass = sym tested ∙ ap check_of c.in-Fine.is in
-    let ready : let a = c.args in LinePassed film a.field.now a.proposal.now a.line = let a = c.args in line_ready film a.field.now a.proposal.now a.line passed in
-    let R = ready in
-    R.film
+    let a = c.args in
+    (line_ready a.film.now a.field.now a.proposal.now a.line (sym c.in_ok-line_tests.ensures)).film
 
 pub estimate-requires-clause-bounded : goal.estimate-requires-clause-bounded
 estimate-requires-clause-bounded c =
-    let film : Film = let a = c.args in film_of a.head a.weights.now a.diagonals.now a.rights.now a.ups.now a.sources.now in
-    let tested : let a = c.args in check_of c.line_tests.result ≡ row_check film a.field.now a.proposal.now a.line = c.line_tests.ensures in
-    let passed : let a = c.args in row_check film a.field.now a.proposal.now a.line ≡ pass = sym tested ∙ ap check_of c.in-Fine.is in
-    let ready : let a = c.args in LinePassed film a.field.now a.proposal.now a.line = let a = c.args in line_ready film a.field.now a.proposal.now a.line passed in
-    let R = ready in
-    R.bounded
+    let a = c.args in
+    (line_ready a.film.now a.field.now a.proposal.now a.line (sym c.in_ok-line_tests.ensures)).bounded
 
-pub estimate-requires-clause-margin_value : goal.estimate-requires-clause-margin_value
-estimate-requires-clause-margin_value c =
-    let film : Film = let a = c.args in film_of a.head a.weights.now a.diagonals.now a.rights.now a.ups.now a.sources.now in
-    let tested : let a = c.args in check_of c.line_tests.result ≡ row_check film a.field.now a.proposal.now a.line = c.line_tests.ensures in
-    let passed : let a = c.args in row_check film a.field.now a.proposal.now a.line ≡ pass = sym tested ∙ ap check_of c.in-Fine.is in
-    let ready : let a = c.args in LinePassed film a.field.now a.proposal.now a.line = let a = c.args in line_ready film a.field.now a.proposal.now a.line passed in
-    let R = ready in
-    c.margin-margin.ensures ∙ margin_sourceless film
-
-pub estimate-requires-clause-columns_in_bounds : goal.estimate-requires-clause-columns_in_bounds
-estimate-requires-clause-columns_in_bounds c =
-    let film : Film = let a = c.args in film_of a.head a.weights.now a.diagonals.now a.rights.now a.ups.now a.sources.now in
-    let tested : let a = c.args in check_of c.line_tests.result ≡ row_check film a.field.now a.proposal.now a.line = c.line_tests.ensures in
-    let passed : let a = c.args in row_check film a.field.now a.proposal.now a.line ≡ pass = sym tested ∙ ap check_of c.in-Fine.is in
-    let ready : let a = c.args in LinePassed film a.field.now a.proposal.now a.line = let a = c.args in line_ready film a.field.now a.proposal.now a.line passed in
-    let R = ready in
-    (omega (arith, c.line_start-first.ensures, R.inside, R.bounded.len), R.len)
+pub estimate-requires-clause-row : goal.estimate-requires-clause-row
+estimate-requires-clause-row c =
+    let a = c.args in
+    let R = line_ready a.film.now a.field.now a.proposal.now a.line (sym c.in_ok-line_tests.ensures) in
+    let start = c.line_start-start.ensures ∙ ap (λ (f : Film). (a.line - 1) * f.columns) c.film.view_is in
+    (rw start R.inside, R.len)

@@ -1,15 +1,11 @@
--- `list_tests::thicknesses_test` meets its contract: a search (`Searched`) whose test is `bad_thickness` and whose places run from `at` on.
-use Prim.Native.Nat.{◌+◌, ◌-◌}
-use Rattle.refusals.proofs.Search.{search_begins, search_next, search_fails}
+-- `list_tests::thicknesses_test` meets its contract: the closure answers as `outside` of the thickness at an index; places are one apart.
+use Rattle.std.proofs.Common.{get_or, ◌∙◌, rules}
+use Rattle.model.specs.Limits.{thickness_limit}
+use Rattle.model.specs.Checks.{outside}
+use Rattle.refusals.proofs.Search.{one_apart}
 use Rattle.list_tests.proofs.thicknesses_test.Goals as goal
 
-pub loop-i-init : goal.loop-i-init
-loop-i-init c = search_begins _ _
-
-pub returns-then-bad_thickness : goal.returns-then-bad_thickness
-returns-then-bad_thickness c =
-    let a = c.args in
-    search_fails c.loop-i.invariant c.loop-i-test.true c.bad_thickness.ensures 7 (λ j. a.at + j) c.if-bad_thickness.true
-
-pub loop-i-preserved : goal.loop-i-preserved
-loop-i-preserved c = search_next c.loop-i.invariant c.loop-i-test.true c.bad_thickness.ensures c.if-bad_thickness.false
+pub returns : goal.returns
+returns c =
+    c.first_place.ensures (λ j. outside (get_or c.args.thicknesses.now j 0) 1 thickness_limit) (λ i low answer e. search rules)
+    ∙ one_apart _ _ 7 c.args.at

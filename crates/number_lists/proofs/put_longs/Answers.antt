@@ -1,6 +1,5 @@
 -- `number_lists::put_longs` meets its contract: after each turn the bytes of the first i numbers stand from `at` on (`Put`), four for each (`listed_front`).
 use lib.ListN.{take}
-use Prim.Native.Nat.{◌-◌}
 use native.Mathlib.Omega.{arith}
 use Rattle.text.proofs.Writes.{put_more}
 use Rattle.words.proofs.Stores.{listed_append, listed_front}

@@ -1,6 +1,5 @@
 -- `number_lists::put_sources` meets its contract: after each turn the bytes of the first i numbers stand from `at` on (`Put`), eight for each (`listed_front`).
 use lib.ListN.{take}
-use Prim.Native.Nat.{◌-◌}
 use native.Mathlib.Omega.{arith}
 use borrow.Author.Rules.{sfits_of}
 use Rattle.text.proofs.Writes.{put_more}

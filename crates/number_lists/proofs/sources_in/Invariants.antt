@@ -1,11 +1,7 @@
--- `number_lists::sources_in` meets its contract: the table is filled place by place (`Filled` of crate `grid`) with the numbers that stand in the file.
-use Prim.Native.Nat.{◌+◌, ◌-◌, ◌*◌, ◌≤◌}
-use Rattle.grid.proofs.Fill.{Filled}
-use Rattle.model.specs.Bytes.{quad_at, signed_quad}
+-- `number_lists::sources_in` meets its contract: the first i places hold the first i sources.
+use Rattle.std.proofs.Common.{◌≡◌, take}
+use Rattle.model.specs.CoefficientFile.{signed_quads_at}
 use Rattle.number_lists.proofs.sources_in.Given as goal
 
 abbrev pub invariant-loop-i : goal.invariant-loop-i
-invariant-loop-i l = (l.i ≤ l.n) × Filled (λ k. signed_quad (quad_at l.file (l.at + 8 * k))) l.i l.initial.sources l.sources
-
-abbrev pub decreases-loop-i : goal.decreases-loop-i
-decreases-loop-i l = l.n - l.i
+invariant-loop-i l = take l.i l.sources ≡ signed_quads_at l.file l.at l.i

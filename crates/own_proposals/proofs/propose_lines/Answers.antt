@@ -1,37 +1,34 @@
 -- `own_proposals::propose_lines` meets its contract: after each turn the lines so far have been proposed as the model proposes them, and no line has more cells
 -- to raise than columns, so that the count fits.
-use mathlib.Core.Path.{◌∙◌}
-use mathlib.Core.List.{List}
-use Prim.Native.Nat.{ℕ, ◌+◌, ◌-◌}
+use mathlib.Core.Path.{◌≡◌, ap}
+use Prim.Native.Nat.{◌+◌, ◌-◌}
 use native.Mathlib.Omega.{arith}
-use Rattle.model.specs.Film.{Film, film_of}
-use Rattle.model.proofs.Bare.{margin_sourceless}
-use Rattle.own_proposals.proofs.Proposals.{Proposing, proposing_begin, proposing_next, proposing_bounded}
+use Rattle.model.specs.Film.{Film}
+use Rattle.own_proposals.proofs.Proposals.{proposing_begin, proposing_next, proposing_bounded, proposing_done}
 use Rattle.own_proposals.proofs.propose_lines.Goals as goal
 
 pub loop-line-init : goal.loop-line-init
-loop-line-init c = (omega arith, c.requires.proposal_len, proposing_begin _ _)
+loop-line-init c = proposing_begin _ _
 
-pub propose_line-more-requires-clause-accepted : goal.propose_line-more-requires-clause-accepted
-propose_line-more-requires-clause-accepted c =
-    let film : Film = film_of c.args.head c.args.weights.now c.args.diagonals.now c.args.rights.now c.args.ups.now c.args.sources.now in
-    (c.requires.accepted.0, proposing_bounded film c.requires.accepted.0 c.args.field.now _ _ _ c.loop-line.invariant.2 c.requires.accepted.1)
+pub propose_line-accepted-requires-clause-accepted : goal.propose_line-accepted-requires-clause-accepted
+propose_line-accepted-requires-clause-accepted c =
+    (c.requires.accepted.0, proposing_bounded c.args.film.now c.requires.accepted.0 c.args.field.now _ _ _ c.loop-line.invariant c.requires.accepted.1)
 
 pub overflow_add-accepted : goal.overflow_add-accepted
 overflow_add-accepted c =
-    let film : Film = film_of c.args.head c.args.weights.now c.args.diagonals.now c.args.rights.now c.args.ups.now c.args.sources.now in
-    let left : List ℕ = c.propose_line-more.new.field in
-    let next : Proposing film c.args.field.now left (c.loop-line.accepted + c.propose_line-more.result) (c.loop-line.line + 1) = proposing_next film c.args.field.now _ _ _ _ _ c.requires.accepted.0.limited.sized.columns_low c.loop-line.invariant.2 c.propose_line-more.ensures in
-    omega (arith, next.low, c.loop-line-test.true, c.requires.accepted.0.limited.sized.rows_low)
+    let s = c.requires.accepted.0.limited.sized in
+    let next = proposing_next c.args.film.now c.args.field.now _ _ _ s.columns_low c.loop-line.auto.line c.loop-line.invariant c.propose_line-accepted.ensures in
+    omega (arith, next.low, s.rows_low, ap (λ (f : Film). f.rows) c.film.view_is)
 
 pub loop-line-preserved : goal.loop-line-preserved
 loop-line-preserved c =
-    let film : Film = film_of c.args.head c.args.weights.now c.args.diagonals.now c.args.rights.now c.args.ups.now c.args.sources.now in
-    let left : List ℕ = c.propose_line-more.new.field in
-    let next : Proposing film c.args.field.now left (c.loop-line.accepted + c.propose_line-more.result) (c.loop-line.line + 1) = proposing_next film c.args.field.now _ _ _ _ _ c.requires.accepted.0.limited.sized.columns_low c.loop-line.invariant.2 c.propose_line-more.ensures in
-    (omega (arith, c.loop-line-test.true), c.propose_line-more.auto.proposal ∙ c.loop-line.invariant.1, next)
+    let s = c.requires.accepted.0.limited.sized in
+    let next = proposing_next c.args.film.now c.args.field.now _ _ _ s.columns_low c.loop-line.auto.line c.loop-line.invariant c.propose_line-accepted.ensures in
+    let e : c.loop-line.line + 1 - 1 ≡ c.loop-line.line = omega arith in
+    rw e next
 
-pub propose_line-more-requires-clause-margin_value : goal.propose_line-more-requires-clause-margin_value
-propose_line-more-requires-clause-margin_value c =
-    let film : Film = film_of c.args.head c.args.weights.now c.args.diagonals.now c.args.rights.now c.args.ups.now c.args.sources.now in
-    (c.margin-margin.ensures ∙ margin_sourceless film, (omega arith, (omega (arith, c.loop-line-test.true), c.loop-line.invariant.1)))
+pub returns-2 : goal.returns-2
+returns-2 c =
+    let s = c.requires.accepted.0.limited.sized in
+    let next = proposing_next c.args.film.now c.args.field.now _ _ _ s.columns_low c.loop-line.auto.line c.loop-line.invariant c.propose_line-accepted.ensures in
+    proposing_done c.args.film.now c.args.field.now _ _ _ next (omega (arith, ap (λ (f : Film). f.rows) c.film.view_is))

@@ -1,42 +1,15 @@
--- `problem::slack` meets its contract: its tests are the model's, in its order, and weights count for nothing in what passes them.
-use mathlib.Core.Path.{◌≡◌, sym, ap, ◌∙◌}
-use borrow.Author.Rules.{sfits_of}
-use Rattle.model.specs.Refusals.{pass, check_of}
-use Rattle.model.specs.Film.{Film, film_of}
-use Rattle.model.specs.Relaxation.{point_check}
-use mir.Facts.{to_z-of_z}
-use Rattle.problem.proofs.Calls.{point_ready, point_tested, slack_passed}
+-- `problem::slack` meets its contract: what passes its tests is what `slack_of` asks for.
+use mathlib.Core.Path.{ap}
+use Rattle.model.specs.Film.{Film, size_of}
+use Rattle.problem.proofs.Passed.{point_ready}
 use Rattle.problem.proofs.slack.Goals as goal
-use mir.Syntax.{w64}
 
-pub slack_of-requires-clause-by_index : goal.slack_of-requires-clause-by_index
-slack_of-requires-clause-by_index c =
-    let film : Film = let a = c.args in film_of a.head a.weights.now a.diagonals.now a.rights.now a.ups.now a.sources.now in
-    let tested : let a = c.args in check_of c.field_tests.result ≡ point_check film a.field.now a.at =
-    let a = c.args in
-    point_tested film a.field.now a.at c.field_tests.result c.cell_test-inside.result c.field_tests.ensures c.cell_test-inside.ensures in
-    let passed : let a = c.args in point_check film a.field.now a.at ≡ pass = sym tested ∙ ap check_of c.in-Fine.is in
-    let a = c.args in
-    let R = point_ready film a.field.now a.at passed in
-    (a.weights.now, R.limited)
+pub slack_of-requires-clause-limited : goal.slack_of-requires-clause-limited
+slack_of-requires-clause-limited c =
+    let size = ap (λ (f : Film). size_of f) c.film.view_is in
+    (point_ready c.args.film.now c.args.field.now c.args.at c.field_tests.ensures c.cell_test-place.ensures c.in_ok-field_tests.was size).limited
 
-pub slack_of-requires-clause-field_len : goal.slack_of-requires-clause-field_len
-slack_of-requires-clause-field_len c =
-    let film : Film = let a = c.args in film_of a.head a.weights.now a.diagonals.now a.rights.now a.ups.now a.sources.now in
-    let tested : let a = c.args in check_of c.field_tests.result ≡ point_check film a.field.now a.at =
-    let a = c.args in
-    point_tested film a.field.now a.at c.field_tests.result c.cell_test-inside.result c.field_tests.ensures c.cell_test-inside.ensures in
-    let passed : let a = c.args in point_check film a.field.now a.at ≡ pass = sym tested ∙ ap check_of c.in-Fine.is in
-    let a = c.args in
-    let R = point_ready film a.field.now a.at passed in
-    (R.len, R.inside)
-
-pub returns-in-Fine : goal.returns-in-Fine
-returns-in-Fine c =
-    let film : Film = let a = c.args in film_of a.head a.weights.now a.diagonals.now a.rights.now a.ups.now a.sources.now in
-    let tested : let a = c.args in check_of c.field_tests.result ≡ point_check film a.field.now a.at =
-    let a = c.args in
-    point_tested film a.field.now a.at c.field_tests.result c.cell_test-inside.result c.field_tests.ensures c.cell_test-inside.ensures in
-    let passed : let a = c.args in point_check film a.field.now a.at ≡ pass = sym tested ∙ ap check_of c.in-Fine.is in
-    let a = c.args in
-    rw (to_z-of_z {w = w64} (sfits_of c.slack_of.type_inv)) (slack_passed film a.field.now a.at passed c.slack_of.ensures)
+pub slack_of-requires-clause-field : goal.slack_of-requires-clause-field
+slack_of-requires-clause-field c =
+    let size = ap (λ (f : Film). size_of f) c.film.view_is in
+    (point_ready c.args.film.now c.args.field.now c.args.at c.field_tests.ensures c.cell_test-place.ensures c.in_ok-field_tests.was size).field

@@ -6,6 +6,7 @@ use native.Mathlib.Nat.{le_refl}
 use native.Mathlib.Omega.{arith}
 use lib.ListN.{length}
 use lib.Seq.{take_all}
+use Rattle.std.proofs.Common.{rules, to_z, of_z, w32}
 use Rattle.model.specs.Lists.{tabulate}
 use Rattle.model.specs.Gauge.{factors_of, Stepped}
 use Rattle.model.specs.Bytes.{word_at}
@@ -17,31 +18,29 @@ pub search_gauged-requires-clause-ringed : goal.search_gauged-requires-clause-ri
 search_gauged-requires-clause-ringed c =
     let l = c.args.file.now in
     let D = c.requires.0 in
-    (ringed l D, subst Stepped (ap factors_of c.in-Absent.is) (stepped l D), c.requires.1)
+    (ringed l D _ _ _, subst Stepped (ap factors_of c.in-None.is) (stepped l D), c.requires.1)
 
-pub search_gauged-requires-clause-by_index : goal.search_gauged-requires-clause-by_index
-search_gauged-requires-clause-by_index c = limited c.args.file.now c.requires.0 (ap factors_of c.in-Absent.is)
+pub search_gauged-requires-clause-limited : goal.search_gauged-requires-clause-limited
+search_gauged-requires-clause-limited c = limited c.args.file.now c.requires.0 (ap factors_of c.in-None.is)
 
-pub search_gauged-requires-in-Given-clause-ringed : goal.search_gauged-requires-in-Given-clause-ringed
-search_gauged-requires-in-Given-clause-ringed c =
+pub search_gauged-requires-in-Some-clause-ringed : goal.search_gauged-requires-in-Some-clause-ringed
+search_gauged-requires-in-Some-clause-ringed c =
     let l = c.args.file.now in
     let D = c.requires.0 in
-    (ringed l D, subst Stepped (ap factors_of c.in-Given.is) (stepped l D), c.requires.1)
+    (ringed l D _ _ _, subst Stepped (ap factors_of c.in-Some.is) (stepped l D), c.requires.1)
 
-pub search_gauged-requires-in-Given-clause-by_index : goal.search_gauged-requires-in-Given-clause-by_index
-search_gauged-requires-in-Given-clause-by_index c = limited c.args.file.now c.requires.0 (ap factors_of c.in-Given.is)
+pub search_gauged-requires-in-Some-clause-limited : goal.search_gauged-requires-in-Some-clause-limited
+search_gauged-requires-in-Some-clause-limited c = limited c.args.file.now c.requires.0 (ap factors_of c.in-Some.is)
 
-pub returns-in-Absent : goal.returns-in-Absent
-returns-in-Absent c =
+pub returns-in-None : goal.returns-in-None
+returns-in-None c =
     let none : weightless c.args.file.now ≡ true = sym c.weightless.ensures ∙ c.if-weightless.true in
-    let plain : factors_of c.args.steps ≡ record { along = 1; across = 1 } = ap factors_of c.in-Absent.is in
-    weighs_found c.args.file.now c.requires.0 plain none c.search_gauged.ensures
+    weighs_found c.args.file.now c.requires.0 (ap factors_of c.in-None.is) _ none c.search_gauged.ensures
 
-pub returns-in-Given : goal.returns-in-Given
-returns-in-Given c =
+pub returns-in-Some : goal.returns-in-Some
+returns-in-Some c =
     let none : weightless c.args.file.now ≡ true = sym c.weightless.ensures ∙ c.if-weightless.true in
-    let unequal : factors_of c.args.steps ≡ c.in-Given.factors = ap factors_of c.in-Given.is in
-    weighs_found c.args.file.now c.requires.0 unequal none c.search_gauged-in-Given.ensures
+    weighs_found c.args.file.now c.requires.0 (ap factors_of c.in-Some.is) _ none c.search_gauged-in-Some.ensures
 
 pub weights_in-requires : goal.weights_in-requires
 weights_in-requires c =
@@ -54,7 +53,7 @@ pub dominance_test-requires : goal.dominance_test-requires
 dominance_test-requires c =
     let l = c.args.file.now in
     let D = c.requires.0 in
-    (ringed l D, c.weights_in.auto.weights ∙ c.requires.1, stepped l D)
+    (ringed l D _ _ _, c.weights_in.auto.weights ∙ c.requires.1, stepped l D)
 
 pub returns : goal.returns
 returns c =
@@ -64,4 +63,5 @@ returns c =
     let n = length c.args.weights.now in
     let whole = take_all n exit (omega (arith, c.weights_in.auto.weights)) in
     let cells = c.requires.1 ∙ cells_are l c.requires.0 in
-    weighs_standing l c.requires.0 some (sym whole ∙ c.weights_in.ensures ∙ ap (λ (k : ℕ). tabulate k (λ i. word_at l (weights_offset + 2 * i))) cells) c.dominance_test.ensures
+    let wedge : to_z w32 (of_z w32 c.args.numbers.wedge) ≡ c.args.numbers.wedge = search rules in
+    weighs_standing l c.requires.0 _ some (sym whole ∙ c.weights_in.ensures ∙ ap (λ (k : ℕ). tabulate k (λ i. word_at l (weights_offset + 2 * i))) cells) (rw wedge at c.dominance_test.ensures.own)

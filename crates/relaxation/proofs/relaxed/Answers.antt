@@ -1,7 +1,8 @@
 -- `relaxation::relaxed` meets its contract: a step to where the loaded cell is raised to is its relaxation (`loaded_serves`).
+use mathlib.Core.Path.{ap}
+use Rattle.model.specs.Film.{Film}
 use Rattle.relaxation.proofs.Target.{loaded_serves}
 use Rattle.relaxation.proofs.relaxed.Goals as goal
 
 pub returns : goal.returns
-returns c =
-    loaded_serves _ _ _ _ _ c.args.ceiling c.cell_at.result c.raise-target.result c.cell_at.ensures.is c.raise-target.ensures c.stepped.ensures
+returns c = loaded_serves c.cell_at.ensures c.raise-target.ensures (ap (λ (f : Film). f.ceiling) c.film.view_is) c.stepped.ensures

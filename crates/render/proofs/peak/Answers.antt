@@ -1,11 +1,11 @@
 -- `render::peak` meets its contract: after each turn `best` is the model's peak of the first i cells, its column and that of cell i are counted (`Peaked`).
-use mathlib.Core.Path.{◌≡◌, ◌∙◌}
-use Prim.Native.Nat.{◌+◌, ◌-◌, ◌%◌, ◌<◌}
+use mathlib.Core.Path.{◌≡◌, sym, ◌∙◌}
+use Prim.Native.Nat.{◌+◌, ◌%◌, ◌<◌}
 use lib.ListN.{length}
 use borrow.Author.Rules.{rules}
 use Rattle.render.proofs.Greatest.{one_further, first_again, peak_none, peak_taken, peak_kept}
 use Rattle.render.proofs.peak.Goals as goal
-use Rattle.render.proofs.peak.Goals.{then-column-columns, else-column-columns, then-top-pressure, else-top-pressure}
+use Rattle.render.proofs.peak.Goals.{then-column-columns, else-column-columns, then-outranks, else-outranks}
 
 pub loop-i-init : goal.loop-i-init
 loop-i-init c = peak_none
@@ -18,7 +18,7 @@ loop-i-preserved c =
       | then-column-columns w ↦ w.column-is ∙ first_again _ _ c.loop-i.invariant.counted w.if-column-columns.true
       | else-column-columns w ↦ w.column-is ∙ one_further _ _ c.loop-i.invariant.counted c.requires w.if-column-columns.false
     ] in
-    elim c.if-top-pressure.branch [
-      | then-top-pressure w ↦ rw (w.best-is, w.edge-is) (peak_taken h c.loop-i.invariant w.if-top-pressure.true n)
-      | else-top-pressure w ↦ rw (w.best-is, w.edge-is) (peak_kept h c.loop-i.invariant w.if-top-pressure.false n)
+    elim c.if-outranks.branch [
+      | then-outranks w ↦ rw (w.best-is, w.edge-is) (peak_taken h c.loop-i.invariant (sym c.outranks.ensures ∙ w.if-outranks.true) n)
+      | else-outranks w ↦ rw (w.best-is, w.edge-is) (peak_kept h c.loop-i.invariant (sym c.outranks.ensures ∙ w.if-outranks.false) n)
     ]

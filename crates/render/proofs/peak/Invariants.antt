@@ -1,11 +1,6 @@
 -- `render::peak` meets its contract: after each turn `best` is the model's peak of the first i cells, its column and that of cell i are counted (`Peaked`).
-use Prim.Native.Nat.{◌-◌}
-use lib.ListN.{length}
 use Rattle.render.proofs.Greatest.{Peaked}
 use Rattle.render.proofs.peak.Given as goal
 
 abbrev pub invariant-loop-i : goal.invariant-loop-i
 invariant-loop-i l = Peaked l.columns l.field l.best l.edge l.column l.i
-
-abbrev pub decreases-loop-i : goal.decreases-loop-i
-decreases-loop-i l = length l.field - l.i

@@ -6,11 +6,9 @@ use Rattle.report.proofs.report.Goals as goal
 pub put_report-requires : goal.put_report-requires
 put_report-requires c =
     let bytes : Bytes c.args.file.now = record { byte = λ i. (c.type_inv.file i).fits } in
-    let a = c.args in
-    long_fits a.file.now a.out.now bytes c.if-out-lt-LONGEST.false
+    long_fits c.args.file.now c.args.out.now c.fail_if.ensures c.in_ok-fail_if.was bytes
 
 pub returns : goal.returns
 returns c =
     let bytes : Bytes c.args.file.now = record { byte = λ i. (c.type_inv.file i).fits } in
-    let a = c.args in
-    long_written a.file.now a.out.now bytes c.if-out-lt-LONGEST.false c.put_report.ensures
+    long_written c.args.file.now c.args.out.now c.fail_if.ensures c.in_ok-fail_if.was bytes c.put_report.ensures

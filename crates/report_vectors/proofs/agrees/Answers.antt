@@ -15,8 +15,8 @@ report_written film before after n h G =
     let size : n ≡ length (report_of film) = cc in
     rw (size, (rw (le-ltb _ _ h) at G.lent_is)) (take-append_seam _ _)
 
-pub returns-in-Written : goal.returns-in-Written
-returns-in-Written c =
-    let written = report_written c.args.film.now c.args.text.now c.report.new.out c.in-Written.n c.requires c.in-Written.ensures in
+pub returns-in-Ok : goal.returns-in-Ok
+returns-in-Ok c =
+    let written = report_written c.args.film.now c.args.text.now c.report.new.out c.in-Ok.n c.requires c.in-Ok.ensures in
     let same = slice_eq-Decides (λ a b. (eqb-true a b, eq-eqb a b)) _ _ c.eq.result c.eq.ensures in
     (λ t. sym written ∙ same.0 t, λ e. same.1 (written ∙ e))

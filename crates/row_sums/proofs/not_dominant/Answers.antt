@@ -1,8 +1,8 @@
 -- `row_sums::not_dominant` meets its contract: inside the grid its links are the formed film's, all four add up to its diagonal, and the comparison is `row_sum`.
+use mathlib.Core.Path.{◌≡◌, sym, ap}
 use Prim.Native.Nat.{◌≤◌, ◌^◌}
 use native.Mathlib.Omega.{arith}
-use lib.IntN.{pos}
-use Rattle.model.specs.Gauge.{Gauge, by_factors, Stepped}
+use Rattle.model.specs.Gauge.{Gauge, Stepped}
 use Rattle.model.specs.declared.Factors.{Factors}
 use Rattle.model.specs.Coefficients.{formed}
 use Rattle.model.specs.FileCalls.{gauge_of}
@@ -11,10 +11,10 @@ use Rattle.model.proofs.Reynolds.{formed_linked, formed_diagonal_lem}
 use Rattle.stencil.proofs.Fits.{link_low}
 use Rattle.row_sums.proofs.not_dominant.Goals as goal
 
-pub pull-pull-requires-clause-left_bound : goal.pull-pull-requires-clause-left_bound
-pull-pull-requires-clause-left_bound c =
+pub pull-pull-requires-clause-links : goal.pull-pull-requires-clause-links
+pull-pull-requires-clause-links c =
     let f : Factors = c.args.factors in
-    let steps : Stepped f = c.requires.ringed.2 in
+    let steps : Stepped f = c.requires.factors.0 in
     let links_low : let k = c.links_of-links.result in (k.left ≤ 2 ^ 29) × (k.right ≤ 2 ^ 29) × (k.down ≤ 2 ^ 29) × (k.up ≤ 2 ^ 29) =
     let a = c.around_at.result in
     rw c.links_of-links.ensures (
@@ -27,7 +27,17 @@ pull-pull-requires-clause-left_bound c =
 
 pub returns : goal.returns
 returns c =
-    let g : Gauge = gauge_of c.args.head c.args.weights.now c.args.thicknesses.now (pos 0) (by_factors c.args.factors) in
-    let w : Inside (formed g) c.args.row c.args.column = omega (arith, c.requires.le_row) in
-    rw (c.product.ensures, c.weight_at-weight.ensures, c.pull-pull.ensures, c.links_of-links.ensures, c.around_at.ensures)
+    let g : Gauge = let f = c.film.inside in gauge_of f.head f.weights.now f.thicknesses.now f.wedge f.steps in
+    let rows : g.rows ≡ c.args.film.now.rows = ap (λ (k : Gauge). k.rows) c.film.view_is in
+    let columns : g.columns ≡ c.args.film.now.columns = ap (λ (k : Gauge). k.columns) c.film.view_is in
+    let w : Inside (formed g) c.args.row c.args.column = omega (arith, c.requires.inside, rows, columns) in
+    rw (
+      c.product.ensures,
+      c.weight_at-weight.ensures,
+      c.pull-pull.ensures,
+      c.links_of-links.ensures,
+      c.around_at.ensures,
+      c.requires.factors.1,
+      sym c.film.view_is,
+    )
     (row_sum (formed g) w (formed_diagonal_lem g c.args.row c.args.column w) (formed_linked g c.args.row c.args.column w))

@@ -1,51 +1,39 @@
--- `run::run` meets its contract: its tests are the model's, in its order, and a film and a field that pass them are readied, and then relaxed, as the
--- model does.
+-- `run::run` meets its contract: a film and a field that pass its tests are readied, and then relaxed, as the model does.
 use mathlib.Core.Path.{◌≡◌, sym, ap, ◌∙◌}
+use mathlib.Core.Bool.{true}
+use mathlib.Core.List.{List}
+use Prim.Native.Nat.{ℕ}
 use Rattle.model.specs.Refusals.{pass, check_of}
-use Rattle.model.specs.Film.{Film, film_of}
-use Rattle.model.specs.Run.{run_check}
-use Rattle.run.proofs.Calls.{run_tested, run_ready, run_passed}
+use Rattle.model.specs.Result.{answered, Result, unrefused, Gives}
+use Rattle.model.specs.Run.{run, run_check}
+use Rattle.model.proofs.Checks.{field_passes}
 use Rattle.run.proofs.run.Goals as goal
 
 pub ready-accepted-requires : goal.ready-accepted-requires
 ready-accepted-requires c =
-    let film : Film = let a = c.args in film_of a.head a.weights.now a.diagonals.now a.rights.now a.ups.now a.sources.now in
-    let tested : let a = c.args in check_of c.field_tests.result ≡ run_check film a.field.now a.order =
     let a = c.args in
-    run_tested film a.field.now a.order c.field_tests.result c.order_test-ordered.result c.field_tests.ensures c.order_test-ordered.ensures in
-    let passed : let a = c.args in run_check film a.field.now a.order ≡ pass = sym tested ∙ ap check_of c.in-Fine.is in
-    let a = c.args in
-    let P = run_ready film a.field.now a.order passed in
+    let P = field_passes a.film.now a.field.now true (check_of c.order_test-ordered.result) pass (sym c.in_ok-field_tests.ensures) in
     (P.film, P.bounded)
 
-pub relaxations-requires-clause-by_index : goal.relaxations-requires-clause-by_index
-relaxations-requires-clause-by_index c =
-    let film : Film = let a = c.args in film_of a.head a.weights.now a.diagonals.now a.rights.now a.ups.now a.sources.now in
-    let tested : let a = c.args in check_of c.field_tests.result ≡ run_check film a.field.now a.order =
+pub relaxations-requires-clause-limited : goal.relaxations-requires-clause-limited
+relaxations-requires-clause-limited c =
     let a = c.args in
-    run_tested film a.field.now a.order c.field_tests.result c.order_test-ordered.result c.field_tests.ensures c.order_test-ordered.ensures in
-    let passed : let a = c.args in run_check film a.field.now a.order ≡ pass = sym tested ∙ ap check_of c.in-Fine.is in
-    let a = c.args in
-    let P = run_ready film a.field.now a.order passed in
-    (a.weights.now, P.film.limited)
+    (field_passes a.film.now a.field.now true (check_of c.order_test-ordered.result) pass (sym c.in_ok-field_tests.ensures)).film.limited
 
-pub relaxations-requires-clause-field_len : goal.relaxations-requires-clause-field_len
-relaxations-requires-clause-field_len c =
-    let film : Film = let a = c.args in film_of a.head a.weights.now a.diagonals.now a.rights.now a.ups.now a.sources.now in
-    let tested : let a = c.args in check_of c.field_tests.result ≡ run_check film a.field.now a.order =
+pub relaxations-requires-clause-field : goal.relaxations-requires-clause-field
+relaxations-requires-clause-field c =
     let a = c.args in
-    run_tested film a.field.now a.order c.field_tests.result c.order_test-ordered.result c.field_tests.ensures c.order_test-ordered.ensures in
-    let passed : let a = c.args in run_check film a.field.now a.order ≡ pass = sym tested ∙ ap check_of c.in-Fine.is in
-    let a = c.args in
-    let P = run_ready film a.field.now a.order passed in
+    let P = field_passes a.film.now a.field.now true (check_of c.order_test-ordered.result) pass (sym c.in_ok-field_tests.ensures) in
     c.ready-accepted.auto.field ∙ P.bounded.len
 
-pub returns-in-Fine : goal.returns-in-Fine
-returns-in-Fine c =
-    let film : Film = let a = c.args in film_of a.head a.weights.now a.diagonals.now a.rights.now a.ups.now a.sources.now in
-    let tested : let a = c.args in check_of c.field_tests.result ≡ run_check film a.field.now a.order =
+-- what a call gives whose tests have passed
+given : {A : Type 0} {r : Result A} {a : A} {exit : List ℕ} → Gives r a exit → Gives (unrefused r) (answered a) exit
+given G = record { answer_is = ap answered G.answer_is; lent_is = G.lent_is }
+
+pub returns : goal.returns
+unfolding run
+returns c =
     let a = c.args in
-    run_tested film a.field.now a.order c.field_tests.result c.order_test-ordered.result c.field_tests.ensures c.order_test-ordered.ensures in
-    let passed : let a = c.args in run_check film a.field.now a.order ≡ pass = sym tested ∙ ap check_of c.in-Fine.is in
-    let a = c.args in
-    run_passed film a.field.now a.budget a.order a.proposals c.ready-accepted.result _ passed c.ready-accepted.ensures c.relaxations.ensures
+    let R = c.ready-accepted.ensures in
+    let passes : run_check a.film.now a.field.now a.order ≡ pass = rw (← c.order_test-ordered.ensures) (sym c.in_ok-field_tests.ensures) in
+    rw passes (given (rw (R.accepted_is, R.field_is) at c.relaxations.ensures))

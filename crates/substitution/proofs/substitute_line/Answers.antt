@@ -1,19 +1,24 @@
--- `substitution::substitute_line` meets its contract: after each turn the columns from j on hold the model's proposals, whatever film the line is of (`Substituting`).
-use mathlib.Core.Path.{◌≡◌}
-use Prim.Native.Nat.{◌-◌}
+-- `substitution::substitute_line` meets its contract: after each turn the columns from j on hold the model's proposals, whatever field the steps are of (`Returning`).
+use mathlib.Core.Path.{ap, ◌∙◌}
+use Prim.Native.Nat.{◌+◌, ◌-◌}
 use native.Mathlib.Omega.{arith}
-use Rattle.substitution.proofs.Backward.{substituting_begin, substituting_next, substituting_done}
+use Rattle.model.specs.Film.{Film, right_at, weight_at}
+use Rattle.model.specs.Estimate.{float_of}
+use Rattle.substitution.proofs.Backward.{returning_begin, returning_next, returning_done}
 use Rattle.substitution.proofs.substitute_line.Goals as goal
 
 pub loop-j-init : goal.loop-j-init
-loop-j-init c = substituting_begin _ _ _ _ _ _ _
+loop-j-init c = λ p m E e. returning_begin _ _ _ e
 
 pub loop-j-preserved : goal.loop-j-preserved
-loop-j-preserved c =
-    substituting_next _ _ _ _ _ _ c.loop-j.invariant c.loop-j-test.true c.from_u32.ensures c.recalled.ensures
-    c.substitute-next.ensures c.whole_part.ensures c.shaved.ensures
+loop-j-preserved c = λ p m E e.
+    let at = c.args.start + (c.loop-j.j - 1) in
+    returning_next _ _ _ _ (c.loop-j.invariant p m E e) (omega arith) (omega arith) (omega arith) m E
+    (c.from.ensures ∙ ap (λ (f : Film). float_of (right_at f at)) c.film.view_is)
+    c.substitute-next.ensures
+    c.whole_part.ensures
+    (ap (λ (f : Film). weight_at f at) c.film.view_is)
+    c.shaved.ensures
 
 pub returns : goal.returns
-returns c =
-    let e : c.loop-j.j ≡ 0 = omega arith in
-    substituting_done _ _ _ _ _ _ (rw e at c.loop-j.invariant)
+returns c = record { is = λ p m E e. returning_done _ _ _ (c.loop-j.invariant p m E (e ∙ c.loop-j.auto.proposal)) c.loop-j-test.false e E }

@@ -1,22 +1,16 @@
--- `sweep::sweep` meets its contract: after each turn the rest of the budget leads to the end of the theory's sweep (`Running`), and each answer names that end.
-use Prim.Native.Nat.{◌-◌}
-use Rattle.sweep.proofs.Turn.{running_stopped, running_next, running_done, running_over}
+-- `sweep::sweep` meets its contract: after each turn the rest of the budget leads to the end of the theory's sweep (`Going`), and each answer names that end.
+use Rattle.sweep.proofs.Turn.{stops, goes_on, is_done, is_over}
 use Rattle.sweep.proofs.sweep.Goals as goal
 
 pub loop-counter-preserved : goal.loop-counter-preserved
 loop-counter-preserved c =
-    let R = c.loop-counter.invariant in
-    running_next _ _ _ _ _ _ _ _ R c.loop-counter-test.true _ _ c.advance-step.ensures _ _ c.in-On.is c.next_place-place.ensures
+    goes_on c.loop-counter.invariant c.requires.listed c.loop-counter-test.true c.advance-step.ensures c.in-On.is c.next_place-place.ensures
 
 pub returns-in-Done : goal.returns-in-Done
-returns-in-Done c =
-    let R = c.loop-counter.invariant in
-    running_done _ _ _ _ _ _ _ _ R c.loop-counter-test.true _ _ c.advance-step.ensures _ c.in-Done.is
+returns-in-Done c = is_done c.loop-counter.invariant c.requires.listed c.loop-counter-test.true c.advance-step.ensures c.in-Done.is
 
 pub returns-in-Over : goal.returns-in-Over
-returns-in-Over c =
-    let R = c.loop-counter.invariant in
-    running_over _ _ _ _ _ _ _ _ R c.loop-counter-test.true _ _ c.advance-step.ensures _ _ c.in-Over.is
+returns-in-Over c = is_over c.loop-counter.invariant c.requires.listed c.loop-counter-test.true c.advance-step.ensures c.in-Over.is
 
 pub returns : goal.returns
-returns c = running_stopped _ _ _ _ _ _ _ _ c.loop-counter.invariant c.loop-counter-test.false
+returns c = stops c.loop-counter.invariant c.loop-counter-test.false

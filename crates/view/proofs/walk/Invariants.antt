@@ -4,8 +4,8 @@ use Prim.Native.Nat.{◌-◌}
 use Rattle.view.proofs.Trail.{On}
 use Rattle.view.proofs.walk.Given as goal
 
-abbrev pub invariant-loop-view : goal.invariant-loop-view
-invariant-loop-view l = (l.view.bytes.now ≡ l.file) × On l.file l.n l.t l.last l.tag l.view.at
+abbrev pub invariant-loop-step : goal.invariant-loop-step
+invariant-loop-step l = (l.view.bytes.now ≡ l.file) × On l.file l.n l.t l.kind l.tag l.view.at
 
-abbrev pub decreases-loop-view : goal.decreases-loop-view
-decreases-loop-view l = 10 - l.tag
+abbrev pub decreases-loop-step : goal.decreases-loop-step
+decreases-loop-step l = 10 - l.tag

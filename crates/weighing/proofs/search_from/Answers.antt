@@ -1,40 +1,32 @@
--- `weighing::search_from` meets its contract: the relaxations are the model's search (`run_is`), and where it is Done the field's numbers fit weights (`fits`).
-use mathlib.Core.Path.{◌≡◌, sym, ap, ◌∙◌}
-use Rattle.model.specs.Refusals.{pass, check_of}
-use Rattle.model.specs.Film.{Film}
-use Rattle.model.specs.Result.{unrefused, Gives}
-use Rattle.model.specs.Run.{run_answer_of}
-use Rattle.model.specs.Weighing.{weight_search, search_check}
+-- `weighing::search_from` meets its contract: the relaxations are the model's search (`finds`), and where it is Done the field's numbers fit weights (`fits`).
+use mathlib.Core.Path.{sym, ap, ◌∙◌}
+use Rattle.std.proofs.lemmas.Result.{err_from_is_err_and}
+use Rattle.model.specs.Refusals.{check_of}
 use Rattle.model.proofs.Checks.{refused_passes}
 use Rattle.refusals.proofs.Chain.{passed}
-use Rattle.weighing.proofs.Searches.{bare, run_is, finds, fits}
+use Rattle.weighing.proofs.Searches.{finds, found_is, fits}
 use Rattle.weighing.proofs.search_from.Goals as goal
 
 pub put_found-requires : goal.put_found-requires
 put_found-requires c =
-    let film : Film = let a = c.args in bare a.head a.diagonals.now a.rights.now a.ups.now in
-    let given : Gives (unrefused (weight_search film)) (run_answer_of c.relaxations-ran.result) c.relaxations-ran.new.field = run_is c.args.head c.args.diagonals.now c.args.rights.now c.args.ups.now c.requires.sources_value.0 c.requires.sources_value.1 c.relaxations-ran.ensures in
     let a = c.args in
-    let e : check_of c.outcome.result ≡ pass = ap check_of c.in-Fine.is in
-    let f = fits a.head a.diagonals.now a.rights.now a.ups.now given c.outcome.ensures c.requires.searchable.0 e in
+    let f = fits a.head a.diagonals.now a.rights.now a.ups.now a.weights.now c.requires.zeros c.relaxations-ran.ensures c.outcome.ensures c.requires.searchable.0 (ap check_of c.in_ok-outcome.was) in
     (f.0 ∙ sym c.requires.searchable.1, f.1)
 
-pub returns-in-Fine : goal.returns-in-Fine
-returns-in-Fine c =
-    let film : Film = let a = c.args in bare a.head a.diagonals.now a.rights.now a.ups.now in
-    let given : Gives (unrefused (weight_search film)) (run_answer_of c.relaxations-ran.result) c.relaxations-ran.new.field = run_is c.args.head c.args.diagonals.now c.args.rights.now c.args.ups.now c.requires.sources_value.0 c.requires.sources_value.1 c.relaxations-ran.ensures in
-    let found : check_of c.outcome.result ≡ search_check film = let a = c.args in finds a.head a.diagonals.now a.rights.now a.ups.now given c.outcome.ensures in
+pub returns : goal.returns
+returns c =
+    let a = c.args in
     record {
-      finds = sym (passed found c.in-Fine.is);
-      weights_are = λ p. c.put_found.ensures ∙ given.lent_is;
+      finds = sym (passed (finds a.head a.diagonals.now a.rights.now a.ups.now a.weights.now c.requires.zeros c.relaxations-ran.ensures c.outcome.ensures) c.in_ok-outcome.was);
+      weights_are = λ p. c.put_found.ensures ∙ found_is a.head a.diagonals.now a.rights.now a.ups.now a.weights.now c.requires.zeros c.relaxations-ran.ensures c.outcome.ensures;
     }
 
-pub returns-in-Refused : goal.returns-in-Refused
-returns-in-Refused c =
-    let film : Film = let a = c.args in bare a.head a.diagonals.now a.rights.now a.ups.now in
-    let given : Gives (unrefused (weight_search film)) (run_answer_of c.relaxations-ran.result) c.relaxations-ran.new.field = run_is c.args.head c.args.diagonals.now c.args.rights.now c.args.ups.now c.requires.sources_value.0 c.requires.sources_value.1 c.relaxations-ran.ensures in
-    let found : check_of c.outcome.result ≡ search_check film = let a = c.args in finds a.head a.diagonals.now a.rights.now a.ups.now given c.outcome.ensures in
-    record {
-      finds = sym (ap check_of c.in-Refused.is) ∙ found;
+pub returns-in_err-outcome : goal.returns-in_err-outcome
+returns-in_err-outcome c =
+    let a = c.args in
+    let p = err_from_is_err_and c.from_residual.result c.from_residual.ensures.1 in
+    rw (p.1, p.2)
+    (record {
+      finds = sym (ap check_of c.in_err-outcome.was) ∙ finds a.head a.diagonals.now a.rights.now a.ups.now a.weights.now c.requires.zeros c.relaxations-ran.ensures c.outcome.ensures;
       weights_are = refused_passes;
-    }
+    })

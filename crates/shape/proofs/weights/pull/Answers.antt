@@ -45,13 +45,13 @@ module _ (g : Gauge) (p : List ℕ) {r c i : ℕ} (w : Cell g.rows g.columns r c
 pub weight_ahead-requires-2 : goal.weight_ahead-requires-2
 weight_ahead-requires-2 c h =
     let grid : Gauge = bare_of c.args.head [] in
-    let inside : Cell c.args.head.rows c.args.head.columns c.args.row c.args.column = omega (arith, c.requires.le_row) in
-    omega (arith, c.requires.rows_bound, up_low grid c.args.weights.now inside c.index_of-at.ensures.0 h)
+    let inside : Cell c.args.head.rows c.args.head.columns c.args.row c.args.column = omega (arith, c.requires.inside) in
+    omega (arith, c.requires.sides, up_low grid c.args.weights.now inside c.index_of-at.ensures.0 h)
 
 pub returns : goal.returns
 returns c =
     let grid : Gauge = bare_of c.args.head [] in
-    let inside : Cell c.args.head.rows c.args.head.columns c.args.row c.args.column = omega (arith, c.requires.le_row) in
+    let inside : Cell c.args.head.rows c.args.head.columns c.args.row c.args.column = omega (arith, c.requires.inside) in
     let p = c.args.weights.now in
     let e = c.index_of-at.ensures.0 in
     rw (

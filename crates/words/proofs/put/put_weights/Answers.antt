@@ -1,6 +1,5 @@
 -- `words::put::put_weights` meets its contract: after each turn the bytes of the first i weights stand from `at` on (`Put`), two for each (`listed_front`).
 use lib.ListN.{take}
-use Prim.Native.Nat.{◌-◌}
 use native.Mathlib.Omega.{arith}
 use Rattle.text.proofs.Writes.{put_more}
 use Rattle.words.proofs.Stores.{listed_append, listed_front}

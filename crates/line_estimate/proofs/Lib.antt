@@ -1,2 +1,0 @@
--- Laws that the proofs of the functions share.
-pub mod Calls

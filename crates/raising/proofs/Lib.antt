@@ -1,2 +1,0 @@
--- Laws that the proofs of the functions, and other crates, share.
-pub mod Columns

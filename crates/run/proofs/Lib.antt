@@ -1,2 +1,0 @@
--- Laws that the proof of the call rests on.
-pub mod Calls
