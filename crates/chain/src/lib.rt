@@ -5,10 +5,10 @@
 // Proved: each step is document 01's, float by float in the order of its text (crate `model`: Estimate).
 #![tactic(auto)]
 
-ghost use Rattle.std.specs.Prelude.{◌≡◌, false, ◌||◌, ◌≤◌, ◌^◌, ltb, pos, neg_ℤ, ◌+ℤ◌, nat_abs};
+ghost use Rattle.std.specs.Prelude.{◌≡◌, true, false, ◌||◌, ◌≤◌, ◌^◌, ltb, pos, neg_ℤ, ◌+ℤ◌, nat_abs};
 ghost use Rattle.model.specs.Integers.{negative};
 ghost use Rattle.model.specs.Film.{slack_of};
-ghost use Rattle.model.specs.Estimate.{pivot_if, eliminate as eliminate_of, is_broken};
+ghost use Rattle.model.specs.Estimate.{idle, pivot_if, eliminate as eliminate_of, is_broken};
 ghost use Rattle.cell.specs.Cell.{Bounded as CellBounded};
 ghost use Rattle.chain.specs.Line.{elimination_of, step_of};
 
@@ -69,9 +69,10 @@ pub fn eliminate(active: bool, m: f64, b: f64, k: f64, preceding: Option<Precedi
     }
 }
 
-// What a step hands on to the next cell: pivot and right side, where it has them.
+// What a step hands on to the next cell: pivot and right side, where it has them; a broken one hands on nothing.
 pub fn handed_on(here: Elimination) -> Option<Preceding>
-    ensures { is_broken (elimination_of here) ≡ false → step_of result ≡ elimination_of here }
+    ensures whole { is_broken (elimination_of here) ≡ false → step_of result ≡ elimination_of here }
+    ensures broken { is_broken (elimination_of here) ≡ true → step_of result ≡ idle }
 {
     match here {
         Elimination::Pivot(g, h) => Some(Preceding { g, h }),

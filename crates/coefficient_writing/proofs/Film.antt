@@ -20,6 +20,10 @@ pub length_known : (rows columns : ℕ) → rows ≤ side_limit → columns ≤ 
 unfolding coefficient_length
 length_known rows columns h l = rw (le-ltb side_limit rows h, le-ltb side_limit columns l)
 
+-- the same as a sum
+pub length_sum : (rows columns : ℕ) → rows ≤ side_limit → columns ≤ side_limit → coefficient_length rows columns ≡ 27 + 22 * cells rows columns
+length_sum rows columns h l = length_known rows columns h l ∙ omega arith
+
 module _ (f : Film) where
   -- a film's own four fields
   abbrev diagonals_part : List ℕ

@@ -16,10 +16,11 @@ use Rattle.model.specs.FileCalls.{gauge_fits}
 use Rattle.model.specs.CoefficientFile.{coefficient_end, coefficient_file_of}
 use Rattle.model.specs.CoefficientCalls.{convert_check, convert_call}
 use Rattle.model.proofs.File.{gauge_shape}
+use Rattle.model.proofs.Lists.{tabulate_length}
 use Rattle.refusals.proofs.Chain.{or_else_given}
 use Rattle.gauge.specs.Tests.{Measured}
 use Rattle.gauge.proofs.Tests.{gauge_measured}
-use Rattle.coefficient_writing.specs.Writable.{coefficient_length}
+use Rattle.coefficient_writing.specs.Writable.{coefficient_length, Writable}
 use Rattle.coefficient_writing.proofs.Film.{length_known}
 
 module _ (g : Gauge) (out : List ℕ) where
@@ -39,6 +40,17 @@ module _ (g : Gauge) (out : List ℕ) where
   convert_ready e =
       let m = gauge_measured g (eqb (length out) (coefficient_end (cells g.rows g.columns))) e in
       ((m.0, m.2), eqb-true _ _ m.1)
+
+  pub formed_writable : Measured g → length out ≡ coefficient_end (cells g.rows g.columns) → Writable (formed g) out
+  formed_writable m e =
+      let s = gauge_shape g m.shape in
+      record {
+        rows_low = s.rows_low;
+        columns_low = s.columns_low;
+        weights_len = m.weights_len;
+        numbers = record { diagonals_len = tabulate_length _ _; rights_len = tabulate_length _ _; ups_len = tabulate_length _ _; sources_len = tabulate_length _ _ };
+        out_len = e;
+      }
 
   -- all is written, or nothing
   pub convert_passed : {exit : List ℕ} → convert_check g out ≡ pass → exit ≡ coefficient_file_of (formed g) → Gives (convert_call g out) (answered tt) exit

@@ -2,7 +2,7 @@
 // Internal: crates `checks` and `coefficient_tests` call it where the coefficients are within their limits. Crate `row_sums` has that test for thicknesses.
 #![tactic(auto)]
 
-ghost use Rattle.std.specs.Prelude.{◌≡◌, cond, ◌+◌, ◌-◌, ◌*◌, ◌≤◌, ◌<◌, ltb, length, get_or};
+ghost use Rattle.std.specs.Prelude.{◌≡◌, cond, List, ◌+◌, ◌-◌, ◌*◌, ◌≤◌, ◌<◌, ltb, ℤ, length, get_or};
 ghost use Rattle.model.specs.Refusals.{check_of};
 ghost use Rattle.model.specs.Checks.{not_dominant, dominance_check};
 ghost use Rattle.model.specs.Accepted.{Limited};
@@ -24,7 +24,7 @@ fn link_back(links: &[u32], at: usize, step: usize) -> u32
 
 // Whether the weighted row sum of cell (row, column) is below 1: the weights beside it pull at least as much as its own bears.
 fn not_dominant(film: &Film, row: usize, column: usize) -> bool
-    requires limited { Limited film.now }
+    requires limited { (s : List ℤ) × Limited (record film.now { sources = s }) }
     requires inside { (1 ≤ row) × (row ≤ film.now.rows) × (1 ≤ column) × (column ≤ film.now.columns) }
     ensures { result ≡ not_dominant film.now ((row - 1) * film.now.columns + (column - 1)) }
 {
@@ -46,9 +46,9 @@ fn not_dominant(film: &Film, row: usize, column: usize) -> bool
     cell::product(film.diagonals[at], weight) <= pull
 }
 
-// Refusal 9, at the lowest cell.
+// Refusal 9, at the lowest cell. The film's sources do not count.
 pub fn dominance_test(film: &Film) -> Result<(), Refusal>
-    requires { Limited film.now }
+    requires { (s : List ℤ) × Limited (record film.now { sources = s }) }
     ensures { check_of result ≡ dominance_check film.now }
 {
     refusals::first::first_cell(film.head, Fault::NotDominant, |row, column| {

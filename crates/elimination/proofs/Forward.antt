@@ -1,16 +1,18 @@
 -- Forwards along a line: the steps that are kept are document 01's, up to the line's end or a broken step.
 use mathlib.Core.Path.{◌≡◌, refl, sym, ap, ◌∙◌}
 use mathlib.Core.Bool.{Bool, true, false, true≢false}
-use mathlib.Core.List.{List}
+use mathlib.Core.List.{List, []}
 use Prim.Native.Nat.{ℕ, zero, suc, ◌+◌, ◌≤◌, ◌<◌}
 use native.Mathlib.Nat.{le_antisymm}
 use native.Mathlib.Numerals.{add-one}
 use native.Mathlib.Decide.{dec_lt}
 use native.Mathlib.Omega.{arith}
+use lib.IntN.{ℤ}
 use lib.ListN.{length, set}
 use lib.Seq.{get_or-set_same, get_or-set_other}
 use Rattle.std.specs.Prelude.{Option, None}
-use Rattle.model.specs.Film.{Film}
+use Rattle.model.specs.declared.Head.{Head}
+use Rattle.model.specs.Film.{Film, film_of, beside, across, neighbours}
 use Rattle.model.specs.Estimate.{is_broken, eliminated}
 use Rattle.model.specs.Estimate as paper
 use Rattle.chain.specs.declared.Elimination.{Elimination}
@@ -84,3 +86,21 @@ module _ (f : Film) (p : List ℕ) (start : ℕ) where
 
   pub going_done : {steps : List Elimination} {preceding : Option Preceding} → Going f.columns steps preceding → Eliminated f p start false steps
   going_done G = record { broken = sym G.unbroken; kept = λ _. G.recorded }
+
+-- which weights a film has makes no difference to the elimination
+module _ (head : Head) (weights diagonals rights ups : List ℕ) (sources : List ℤ) (p : List ℕ) (start : ℕ) where
+  eliminated_weights : (n : ℕ)
+      → eliminated (film_of head [] diagonals rights ups sources) p start n
+      ≡ eliminated (film_of head weights diagonals rights ups sources) p start n
+  unfolding eliminated neighbours beside across
+  eliminated_weights zero = refl
+  eliminated_weights (suc n) = ap (step_at (film_of head [] diagonals rights ups sources) p (start + n)) (eliminated_weights n)
+
+  pub line_weights : {broke : Bool} {steps : List Elimination}
+      → Eliminated (film_of head [] diagonals rights ups sources) p start broke steps
+      → Eliminated (film_of head weights diagonals rights ups sources) p start broke steps
+  line_weights E =
+      record {
+        broken = E.broken ∙ ap is_broken (eliminated_weights _);
+        kept = λ z. let R = E.kept z in record { step = λ k h. R.step k h ∙ eliminated_weights (suc k) };
+      }

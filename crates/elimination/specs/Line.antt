@@ -4,16 +4,17 @@ use Rattle.std.specs.Float.{binary64}
 use Rattle.std.specs.Float.Ieee.{of_int}
 use Rattle.monotone.specs.Rule.{Bounded}
 use Rattle.monotone.specs.Links.{pull}
-use Rattle.model.specs.Film.{Film, rule, across, diagonal_at, right_at}
+use Rattle.model.specs.Film.{Film, weighted, rule, across, diagonal_at, right_at}
 use Rattle.model.specs.Accepted.{Accepted}
 use Rattle.model.specs.Estimate as paper
 use Rattle.chain.specs.Line.{elimination_of}
 use Rattle.chain.specs.declared.Elimination.{Elimination}
 use Rattle.chain.specs.declared.Elimination.TheVariants.{Idle}
 
--- an accepted film and a field of it
+-- an accepted film, whatever its weights, and a field of it
 pub record Held (f : Film) (p : List ℕ) : Type 0 where
-  pub accepted : Accepted f
+  pub weights : List ℕ
+  pub accepted : Accepted (weighted f weights)
   pub bounded : Bounded (rule f) p
 
 -- link × pressure over the rows below and above

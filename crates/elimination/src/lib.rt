@@ -22,6 +22,7 @@ fn pull_across(film: &Film, field: &[u32], at: usize) -> u64
 }
 
 // The elimination step in a cell of the film. The first cell of all has none before it; its link to one is not used.
+#[tactic(auto, using(crate::proofs::Cells::held_pull))]
 fn step(film: &Film, field: &[u32], at: usize, preceding: Option<Preceding>) -> Elimination
     requires { Held film.now field.now × (at < size_of film.now) }
     ensures { elimination_of result ≡ step_at film.now field.now at (step_of preceding) }

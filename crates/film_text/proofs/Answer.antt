@@ -1,23 +1,37 @@
 -- The report of an accepted film, from what the run answered.
 use mathlib.Core.Path.{◌≡◌, refl, sym, ap, ◌∙◌, subst}
 use mathlib.Core.Bool.{true, false}
-use mathlib.Core.List.{List}
-use Prim.Native.Nat.{ℕ, ◌<◌}
+use mathlib.Core.List.{List, ◌++◌}
+use Prim.Native.Nat.{ℕ, zero, suc, ◌<◌}
 use lib.ListN.{length, replicate}
 use Rattle.monotone.proofs.History.{zeros_bounded}
 use Rattle.model.specs.Refusals.{pass}
-use Rattle.model.specs.Film.{Film, size_of, rule}
+use Rattle.model.specs.Film.{Film, size_of, rule, beside, across, neighbours}
 use Rattle.model.specs.Checks.{order_check}
 use Rattle.model.specs.Accepted.{Accepted}
-use Rattle.model.specs.Result.{Answer, answered, unrefused, call_by, Gives}
+use Rattle.model.specs.Result.{Answer, answered, refused, unrefused, call_by, Gives}
 use Rattle.model.specs.Run.{RunAnswer, done, stopped, over, run_call}
-use Rattle.model.specs.Report.{head_line, answer_text, report_budget, report_run, film_report}
+use Rattle.model.specs.Report.{head_line, cell_line, cell_lines, answer_text, report_budget, report_run, film_report}
 use Rattle.model.specs.declared.Counts.{Counts}
+use Rattle.model.proofs.Bare.{bare}
 use Rattle.model.proofs.Run.{run_good, run_over}
 use Rattle.model.proofs.Forming.{field_accepted}
 use Rattle.text.specs.Writes.{Fits, Writes}
 use Rattle.text.proofs.Writes.{fits_rest, writes_then}
 use Rattle.render.specs.Answer.{Inside, text_of}
+
+-- weights count for nothing in the text after a report's head
+module _ (f : Film) (p : List ℕ) where
+  lines_bare : (n : ℕ) → cell_lines (bare f) p n ≡ cell_lines f p n
+  unfolding cell_lines neighbours beside across
+  lines_bare zero = refl
+  lines_bare (suc n) = ap (λ (l : List ℕ). l ++ cell_line f p n) (lines_bare n)
+
+  pub answer_bare : (a : Answer RunAnswer) → text_of (bare f) a p ≡ text_of f a p
+  answer_bare (answered (done c)) = rw (lines_bare (size_of f))
+  answer_bare (answered (stopped c)) = rw (lines_bare (size_of f))
+  answer_bare (answered (over i c)) = refl
+  answer_bare (refused number place) = refl
 
 -- What the report's run answers, and the field that it leaves: they give the report's text, and Over names a cell of the grid.
 pub record Reports (f : Film) (a : Answer RunAnswer) (p : List ℕ) : Type 0 where

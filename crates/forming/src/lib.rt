@@ -2,7 +2,7 @@
 // Internal: the public call `form` and the report write them all, and crate `row_sums` takes the thicknesses around a cell.
 #![tactic(auto)]
 
-ghost use Rattle.std.specs.Prelude.{◌≡◌, ◌-◌, ◌*◌, ◌≤◌};
+ghost use Rattle.std.specs.Prelude.{◌≡◌, ◌-◌, ◌*◌, ◌≤◌, Some};
 ghost use Rattle.model.specs.Gauge.{factors_of, Stepped};
 ghost use Rattle.model.specs.File.{cells};
 ghost use Rattle.forming.specs.Cell.{coefficients_at, around_of, Ringed, Room, FormedTo, Forming};
@@ -27,12 +27,12 @@ pub fn around_at(film: &Gauged, row: usize, column: usize) -> Around
     }
 }
 
-// The coefficients of cell (row, column), with the film's factors.
+// The coefficients of cell (row, column), with these factors; the film's own steps do not count.
 pub fn coefficients_at(film: &Gauged, factors: Factors, row: usize, column: usize) -> Coefficients
     requires ringed { Ringed film.now × Stepped factors }
-    requires factors { factors ≡ factors_of film.now.steps }
     requires inside { (1 ≤ row) × (row ≤ film.now.rows) × (1 ≤ column) × (column ≤ film.now.columns) }
-    ensures { result ≡ coefficients_at film.now row column }
+    ensures any_steps { result ≡ coefficients_at (record film.now { steps = Some factors }) row column }
+    ensures own { factors ≡ factors_of film.now.steps → result ≡ coefficients_at film.now row column }
 {
     let around = around_at(film, row, column);
     let in_row = column < (film.head.columns as usize);

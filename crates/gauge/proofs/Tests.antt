@@ -14,7 +14,7 @@ use Rattle.model.proofs.Checks.{and_parts, or_else_assoc, or_else_parts, fail_if
 use Rattle.model.proofs.Sides.{cells_low}
 use Rattle.model.proofs.File.{gauge_shape, stepped}
 use Rattle.forming.specs.Cell.{Ringed}
-use Rattle.gauge.specs.Tests.{numbers_check, values_check, Measured}
+use Rattle.gauge.specs.Tests.{numbers_check, sized_check, Measured}
 use Rattle.forming.proofs.Cell.{ring_low}
 
 module _ {g : Gauge} (m : Measured g) where
@@ -68,7 +68,7 @@ lengths_are g fits e h = rw e at h
 
 -- document 01's order of tests, by the parts in which the code goes
 pub gauge_parts : (g : Gauge) (fits : Bool) {r : Check}
-    → r ≡ (shape_check g.rows rows_offset g.columns columns_offset or_else fail_if (not (gauge_fits g && fits)) 10 0 or_else values_check g)
+    → r ≡ (shape_check g.rows rows_offset g.columns columns_offset or_else sized_check g fits)
     → r ≡ gauge_check g (gauge_fits g && fits)
 unfolding gauge_check
 gauge_parts g fits e = e ∙ simp or_else_assoc

@@ -10,7 +10,7 @@ ghost use Rattle.model.specs.Refusals.{pass, check_of};
 ghost use Rattle.model.specs.Checks.{shape_check};
 ghost use Rattle.model.specs.File.{rows_offset, columns_offset, gauge_check};
 ghost use Rattle.model.specs.FileCalls.{gauge_fits};
-ghost use Rattle.gauge.specs.Tests.{numbers_check, values_check, Measured};
+ghost use Rattle.gauge.specs.Tests.{numbers_check, values_check, sized_check, Measured};
 
 use fault::Fault;
 use model::{Gauged, Refusal};
@@ -47,11 +47,19 @@ fn gauge_fits(film: &Gauged) -> bool
         & (film.thicknesses.len() == shape::ring(film.head.rows, film.head.columns))
 }
 
+// Refusals 10, 5, 6, 7, 8, 15 and 9, of a film whose shape has passed.
+fn sized_tests(film: &Gauged, fits: bool) -> Result<(), Refusal>
+    requires { shape_check film.now.rows rows_offset film.now.columns columns_offset ≡ pass }
+    ensures { check_of result ≡ sized_check film.now fits }
+{
+    refusals::fail_if(!(gauge_fits(film) & fits), Fault::WrongBuffer, 0)?;
+    value_tests(film)
+}
+
 // The tests of a film's numbers; `fits` says whether the call's other slices have their lengths.
 pub fn gauge_tests(film: &Gauged, fits: bool) -> Result<(), Refusal>
     ensures { check_of result ≡ gauge_check film.now (gauge_fits film.now && fits) }
 {
     refusals::shape_test(film.head.rows, 3, film.head.columns, 4)?;
-    refusals::fail_if(!(gauge_fits(film) & fits), Fault::WrongBuffer, 0)?;
-    value_tests(film)
+    sized_tests(film, fits)
 }

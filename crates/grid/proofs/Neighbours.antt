@@ -12,14 +12,8 @@ use lib.ListN.{get_or}
 use Rattle.monotone.specs.Links.{pull}
 use Rattle.model.specs.Film.{Film, size_of, row_of, column_of, right_at, up_at, link_if, beside, across, neighbours, pull_of}
 use Rattle.model.proofs.Sides.{pull_append}
-use Rattle.grid.specs.Pull.{back_of, ahead_of, pull_by}
+use Rattle.grid.specs.Pull.{back_of, ahead_of, pull_by, Edges}
 use Rattle.grid.proofs.Pull.{back_none, back_some}
-
--- links that leave the grid are 0
-pub record Edges (f : Film) : Type 0 where
-  pub some : 0 < f.columns
-  pub right : (k : ℕ) → k < size_of f → f.columns ≤ column_of f k + 1 → right_at f k ≡ 0
-  pub up : (k : ℕ) → k < size_of f → f.rows ≤ row_of f k + 1 → up_at f k ≡ 0
 
 pull_if : (b : Bool) (cell link : ℕ) (x : ℕ → ℕ) → pull (link_if b cell link) x ≡ cond b (link * x cell) 0
 pull_if true cell link x = add-zero (link * x cell)

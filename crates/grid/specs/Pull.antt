@@ -1,6 +1,7 @@
 -- A cell and its neighbours, by index alone.
-use Rattle.std.specs.Prelude.{◌≡◌, cond, List, ℕ, ◌+◌, ◌-◌, ◌*◌, ◌≤◌, ◌^◌, ltb, length, get_or}
-use Rattle.model.specs.Film.{Film, diagonal_at, pull_of, source_at}
+use Rattle.std.specs.Prelude.{◌≡◌, cond, List, ℕ, ◌+◌, ◌-◌, ◌*◌, ◌≤◌, ◌<◌, ◌^◌, ltb, ℤ, length, get_or}
+use Rattle.model.specs.Integers.{positive_part, negative_part}
+use Rattle.model.specs.Film.{Film, size_of, row_of, column_of, diagonal_at, right_at, up_at, source_at, pull_of}
 use Rattle.cell.specs.Cell.{Bounded}
 use Rattle.cell.specs.declared.Cell.{Cell}
 
@@ -25,9 +26,32 @@ unfoldable pub pull_by : ℕ → List ℕ → List ℕ → List ℕ → ℕ → 
 pull_by columns rights ups numbers i =
     back_of rights numbers i 1 + ahead_of rights numbers i 1 + (back_of ups numbers i columns + ahead_of ups numbers i columns)
 
--- r is the cell i of the film, with numbers for pressures, and within its limits
+-- a diagonal and a source within the limits that a cell asks for
+pub record Limits (diagonal : ℕ) (source : ℤ) : Type 0 where
+  pub some : 0 < diagonal
+  pub diagonal_low : diagonal ≤ 2 ^ 28
+  pub positive_low : positive_part source ≤ 2 ^ 60
+  pub negative_low : negative_part source ≤ 2 ^ 60
+
+-- coefficients for each of the numbers
+pub record Aligned (f : Film) (numbers : List ℕ) : Type 0 where
+  pub right : Links f.rights numbers
+  pub up : Links f.ups numbers
+  pub diagonals_len : length f.diagonals ≡ length numbers
+  pub sources_len : length f.sources ≡ length numbers
+  pub cell : (i : ℕ) → i < length numbers → Limits (diagonal_at f i) (source_at f i)
+
+-- links that leave the grid are 0
+pub record Edges (f : Film) : Type 0 where
+  pub some : 0 < f.columns
+  pub right : (k : ℕ) → k < size_of f → f.columns ≤ column_of f k + 1 → right_at f k ≡ 0
+  pub up : (k : ℕ) → k < size_of f → f.rows ≤ row_of f k + 1 → up_at f k ≡ 0
+
+-- r is the cell i of the film, with numbers for pressures, and within its limits; its pull is worked out by index, and where the links that
+-- leave the grid are 0 it is document 01's
 pub record IsCell (r : Cell) (f : Film) (numbers : List ℕ) (i : ℕ) : Type 0 where
   pub diagonal : r.diagonal ≡ diagonal_at f i
-  pub pull : r.pull ≡ pull_of f numbers i
+  pub by_index : r.pull ≡ pull_by f.columns f.rights f.ups numbers i
+  pub pull : Edges f → i < size_of f → r.pull ≡ pull_of f numbers i
   pub source : r.source ≡ source_at f i
   pub bounded : Bounded r

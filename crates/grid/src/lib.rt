@@ -1,4 +1,4 @@
-// A film's cells in lent slices: a cell with its neighbours' pull, by index alone, and its slack. Internal: what relaxes, proposes,
+// A film's cells: a cell with its neighbours' pull, by index alone, and its slack. Internal: what relaxes, proposes,
 // estimates or prints a cell loads it here.
 //
 // Links that leave the grid are 0 (refusal 14 sees to it), so the pull needs no rows and columns: the neighbours of cell i are
@@ -7,9 +7,9 @@
 #![tactic(auto)]
 
 ghost use Rattle.std.specs.Prelude.{◌≡◌, List, [], ℕ, ◌+◌, ◌-◌, ◌*◌, ◌≤◌, ◌<◌, ◌^◌, length, take};
-ghost use Rattle.model.specs.Film.{size_of, slack};
+ghost use Rattle.model.specs.Film.{weighted, size_of, slack};
 ghost use Rattle.model.specs.Accepted.{Limited};
-ghost use Rattle.grid.specs.Pull.{Links, back_of, ahead_of, Product, pull_by, IsCell};
+ghost use Rattle.grid.specs.Pull.{Links, back_of, ahead_of, Product, pull_by, Aligned, IsCell};
 
 use cell::Cell;
 use model::Film;
@@ -50,10 +50,9 @@ pub fn pull_at(rights: &[u32], ups: &[u32], columns: usize, numbers: &[u32], at:
         + (pull_back(ups, numbers, at, columns) + pull_ahead(ups, numbers, at, columns))
 }
 
-// A cell's diagonal, pull and source, with pressures or other numbers of the cells, in a film that is within its limits.
+// A cell's diagonal, pull and source, with pressures or other numbers of the cells.
 pub fn cell_at(film: &Film, numbers: &[u32], at: usize) -> Cell
-    requires limited { Limited film.now }
-    requires numbers { (length numbers.now ≡ size_of film.now) × (at < size_of film.now) }
+    requires { Aligned film.now numbers.now × (at < length numbers.now) }
     ensures { IsCell result film.now numbers.now at }
 {
     let columns = film.head.columns as usize;
@@ -64,9 +63,9 @@ pub fn cell_at(film: &Film, numbers: &[u32], at: usize) -> Cell
     }
 }
 
-// Its slack.
+// The slack of a cell of a film that has passed its tests; its weights do not count.
 pub fn slack_of(film: &Film, field: &[u32], at: usize) -> i64
-    requires limited { Limited film.now }
+    requires limited { (w : List ℕ) × Limited (weighted film.now w) }
     requires field { (length field.now ≡ size_of film.now) × (at < size_of film.now) }
     ensures { result ≡ slack film.now field.now at }
 {

@@ -3,8 +3,9 @@
 // index alone, rests on it in all later crates.
 #![tactic(auto)]
 
-ghost use Rattle.std.specs.Prelude.{◌≡◌, ◌&&◌, ◌+◌, ◌-◌, ◌*◌, ◌≤◌, ltb, leb, nat_abs};
+ghost use Rattle.std.specs.Prelude.{◌≡◌, ◌&&◌, List, ℕ, ◌+◌, ◌-◌, ◌*◌, ◌≤◌, ltb, leb, nat_abs};
 ghost use Rattle.model.specs.Limits.{source_limit};
+ghost use Rattle.model.specs.Film.{weighted};
 ghost use Rattle.model.specs.Refusals.{check_of};
 ghost use Rattle.model.specs.Checks.{bad_coefficient, coefficient_check};
 ghost use Rattle.model.specs.Accepted.{Sized};
@@ -35,7 +36,7 @@ fn far_source(source: i64) -> bool
 
 // Whether the diagonal, right or up link or source of cell (row, column) is outside its limits.
 fn bad_coefficient(film: &Film, row: usize, column: usize) -> bool
-    requires sized { Sized film.now }
+    requires sized { (w : List ℕ) × Sized (weighted film.now w) }
     requires inside { (1 ≤ row) × (row ≤ film.now.rows) × (1 ≤ column) × (column ≤ film.now.columns) }
     ensures { result ≡ bad_coefficient film.now ((row - 1) * film.now.columns + (column - 1)) }
 {
@@ -52,9 +53,9 @@ fn bad_coefficient(film: &Film, row: usize, column: usize) -> bool
         | far_source(film.sources[at])
 }
 
-// Refusal 14, at the lowest cell.
+// Refusal 14, at the lowest cell. The film's weights do not count.
 pub fn coefficient_test(film: &Film) -> Result<(), Refusal>
-    requires { Sized film.now }
+    requires { (w : List ℕ) × Sized (weighted film.now w) }
     ensures { check_of result ≡ coefficient_check film.now }
 {
     refusals::first::first_cell(film.head, Fault::BadCoefficient, |row, column| {

@@ -4,7 +4,7 @@
 // Proved: it is the least whole number that document 01 asks for (crate `model`: Margin), and does not depend on the sources (proofs/LeastMargin).
 #![tactic(auto)]
 
-ghost use Rattle.std.specs.Prelude.{◌≡◌, ◌≤◌, ◌<◌, ◌^◌};
+ghost use Rattle.std.specs.Prelude.{◌≡◌, List, ◌≤◌, ◌<◌, ◌^◌, ℤ};
 ghost use Rattle.monotone.specs.Linear.{required_of};
 ghost use Rattle.model.specs.Film.{size_of};
 ghost use Rattle.model.specs.Accepted.{Accepted};
@@ -25,14 +25,16 @@ fn quotient_up(inside: u64, dominance: u64) -> u32
 // What a cell asks of the margin. Its inside links are the pull of ones; the film's weights come in 32 bits too, for the function that takes
 // pressures.
 fn margin_at(film: &Film, weights: &[u32], ones: &[u32], at: usize) -> u32
-    requires accepted { Accepted film.now × (weights.now ≡ film.now.weights) }
+    requires accepted { ((s : List ℤ) × Accepted (record film.now { sources = s })) × (weights.now ≡ film.now.weights) }
     requires ones { Ones (size_of film.now) ones.now × (at < size_of film.now) }
     ensures { result ≡ margin_at film.now at }
 {
-    let inside = grid::cell_at(film, ones, at).pull;
+    let columns = film.head.columns as usize;
+    let inside = grid::pull_at(film.rights, film.ups, columns, ones, at);
     let cell = Cell {
+        diagonal: film.diagonals[at],
+        pull: grid::pull_at(film.rights, film.ups, columns, weights, at),
         source: 0,
-        ..grid::cell_at(film, weights, at)
     };
     quotient_up(inside, cell::positive_part(cell.slack(weights[at])))
 }
@@ -40,7 +42,7 @@ fn margin_at(film: &Film, weights: &[u32], ones: &[u32], at: usize) -> u32
 // The greatest that a cell asks.
 #[tactic(auto, using(model::proofs::Lists::greatest_more))]
 fn greatest_margin(film: &Film, weights: &[u32], ones: &[u32]) -> u32
-    requires accepted { Accepted film.now × (weights.now ≡ film.now.weights) }
+    requires accepted { ((s : List ℤ) × Accepted (record film.now { sources = s })) × (weights.now ≡ film.now.weights) }
     requires ones { Ones (size_of film.now) ones.now }
     ensures { result ≡ margin_of film.now }
 {
@@ -54,7 +56,7 @@ fn greatest_margin(film: &Film, weights: &[u32], ones: &[u32]) -> u32
 // The film's margin K: the least whole number with K × dominance at least the sum of inside links at every cell. It does
 // not depend on the sources.
 pub fn margin(film: &Film) -> u32
-    requires { Accepted film.now }
+    requires { (s : List ℤ) × Accepted (record film.now { sources = s }) }
     ensures { result ≡ margin_of film.now }
 {
     let n = film.weights.len();

@@ -1,5 +1,5 @@
 -- The relaxations of a run: the table lists the film's cells in its ordering, and the end of a sweep over it is the run's answer.
-use mathlib.Core.Path.{◌≡◌, refl, ap, ap₂, ◌∙◌}
+use mathlib.Core.Path.{◌≡◌, refl, sym, ap, ap₂, ◌∙◌, subst}
 use mathlib.Core.List.{List}
 use Prim.Native.Nat.{ℕ, ◌^◌, ◌<◌}
 use native.Mathlib.Nat.{mul-pos}
@@ -11,7 +11,7 @@ use Rattle.monotone.specs.Sweep as theory
 use Rattle.monotone.proofs.Sweep.{sweep_counts}
 use Rattle.monotone.proofs.Agree.{sweep_agrees}
 use Rattle.model.specs.Lists.{tabulate}
-use Rattle.model.specs.Film.{Film, size_of, rule}
+use Rattle.model.specs.Film.{Film, weighted, size_of, rule}
 use Rattle.model.specs.Accepted.{Limited}
 use Rattle.model.specs.Result.{Gives}
 use Rattle.model.specs.Run.{RunAnswer, counts_of, end_of, ended, order_of, ordering}
@@ -22,7 +22,7 @@ use Rattle.sweep.specs.Sweep.{answer_of, counter_of, order_in, Listed, Ends}
 use Rattle.sweep.specs.declared.Swept.{Swept}
 use Rattle.ordered_sweep.specs.Counts.{counts_in}
 
-module _ {f : Film} (l : Limited f) (order : ℕ) {n columns : ℕ} {table : List ℕ} (cells : n ≡ size_of f) (wide : columns ≡ f.columns) (e : table ≡ tabulate n (order_of columns n order)) where
+module _ (f : Film) {w : List ℕ} (l : Limited (weighted f w)) (order : ℕ) {n columns : ℕ} {table : List ℕ} (cells : n ≡ size_of f) (wide : columns ≡ f.columns) (e : table ≡ tabulate n (order_of columns n order)) where
   filled : table ≡ tabulate (size_of f) (ordering f order)
   filled = e ∙ ap₂ (λ (n columns : ℕ). tabulate n (order_of columns n order)) cells wide
 
@@ -38,8 +38,13 @@ module _ {f : Film} (l : Limited f) (order : ℕ) {n columns : ℕ} {table : Lis
   table_cell : (k : ℕ) → k < size_of f → order_in table k < size_of f
   table_cell k h = rw (table_at k h) (permutes.cell k h)
 
-  pub cells_listed : Listed table (size_of f)
-  cells_listed = record { len = table_length; cells = λ k h. table_cell k (rw table_length at h) }
+  -- as a field has them
+  pub cells_listed : {k : ℕ} → k ≡ size_of f → Listed table k
+  cells_listed e =
+      subst (λ (m : ℕ). Listed table m) (sym e) (record { len = table_length; cells = λ k h. table_cell k (rw table_length at h) })
+
+  pub cells_some : {k : ℕ} → k ≡ size_of f → 0 < k
+  cells_some e = omega (arith, e, mul-pos l.sized.rows_some l.sized.columns_some)
 
   -- a sweep over the table is the film's own
   film_sweep : (budget : ℕ) (p : List ℕ)

@@ -4,9 +4,9 @@
 // Proved: answer, counts and field are those of the film's own sweep in that ordering (crate `model`: Run).
 #![tactic(auto)]
 
-ghost use Rattle.std.specs.Prelude.{◌≡◌, ◌^◌, ◌<◌, length};
+ghost use Rattle.std.specs.Prelude.{◌≡◌, List, ℕ, ◌^◌, ◌<◌, length};
 ghost use Rattle.monotone.specs.Sweep.{begin, sweep as sweep_of};
-ghost use Rattle.model.specs.Film.{size_of, rule};
+ghost use Rattle.model.specs.Film.{weighted, size_of, rule};
 ghost use Rattle.model.specs.Accepted.{Limited};
 ghost use Rattle.model.specs.Result.{Gives};
 ghost use Rattle.model.specs.Run.{ran_of, end_of, ended, ordering};
@@ -40,9 +40,9 @@ fn as_answer(swept: Swept, accepted: u32) -> Ran
     }
 }
 
-// The relaxations of a run, from a field that proposals have readied.
+// The relaxations of a run, from a field that proposals have readied. The film's weights do not count.
 pub fn relaxations(film: &Film, field: &mut [u32], budget: u32, order: u32, accepted: u32) -> Ran
-    requires limited { Limited film.now }
+    requires limited { (w : List ℕ) × Limited (weighted film.now w) }
     requires field { length field.old ≡ size_of film.now }
     ensures { Gives (ended (sweep_of (rule film.now) (ordering film.now order) budget (begin field.old)) accepted) (ran_of result) field.new }
 {

@@ -5,8 +5,8 @@
 // only after the tests, so a rejected proposal leaves it alone.
 #![tactic(auto)]
 
-ghost use Rattle.std.specs.Prelude.{◌≡◌, ◌+◌, ◌-◌, ◌*◌, ◌≤◌, length};
-ghost use Rattle.model.specs.Film.{size_of};
+ghost use Rattle.std.specs.Prelude.{◌≡◌, List, ℕ, ◌+◌, ◌-◌, ◌*◌, ◌≤◌, length};
+ghost use Rattle.model.specs.Film.{weighted, size_of};
 ghost use Rattle.model.specs.Accepted.{Limited};
 ghost use Rattle.model.specs.Result.{Gives};
 ghost use Rattle.model.specs.Proposal.{proposed_of, accepts, decided, propose as propose_of};
@@ -25,7 +25,7 @@ pub fn line_start(columns: u32, line: u32) -> usize
 // The tests of the new field, and then the new field for the old one if they hold; it answers how many cells rose.
 #[tactic(auto, using(crate::proofs::Proposal::all_hold, crate::proofs::Proposal::one_fails), unfolding(model::specs::Proposal::rise_count, model::specs::Proposal::within_ceiling))]
 fn settle(film: &Film, field: &mut [u32], raised: &[u32], start: usize) -> Option<u32>
-    requires limited { Limited film.now }
+    requires limited { (w : List ℕ) × Limited (weighted film.now w) }
     requires row { Row film.now start field.old raised.now }
     ensures { Gives (decided (accepts film.now start field.old raised.now) film.now start field.old raised.now) (proposed_of result) field.new }
 {
@@ -42,7 +42,7 @@ fn settle(film: &Film, field: &mut [u32], raised: &[u32], start: usize) -> Optio
 
 // A proposal for the row that begins at `start`: accepted, with the number of cells that rose, or rejected.
 pub fn propose(film: &Film, field: &mut [u32], start: usize, proposal: &[u32]) -> Option<u32>
-    requires limited { Limited film.now }
+    requires limited { (w : List ℕ) × Limited (weighted film.now w) }
     requires row { (length field.old ≡ size_of film.now) × (start + film.now.columns ≤ size_of film.now) × (length proposal.now ≡ film.now.columns) }
     ensures { Gives (propose_of film.now start proposal.now field.old) (proposed_of result) field.new }
 {

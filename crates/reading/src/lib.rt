@@ -99,7 +99,7 @@ fn hand_over(
 {
     weighed(file, numbers, ring, words)?;
     text::put(weights, 0, &words[..]);
-    text::put(thicknesses, 0, ring);
+    text::put_bytes(thicknesses, 0, ring);
     Ok(numbers)
 }
 

@@ -1,15 +1,17 @@
-// The relaxation of one cell from lent slices, counted. Internal: the sweep calls it.
+// The relaxation of one cell, counted. Internal: the sweep calls it.
 // The counter is lent to the relaxation step, which moves it on beside the field; `stepped` lends it from a local, so that callers pass values.
 //
-// Proved: the field and the counts are those of a relaxation to what the cell requires under the film's rule.
+// Proved: the field and the counts are those of a relaxation to what the cell requires under the film's rule, read by index, and so under the
+// film's own where the links that leave the grid are 0.
 #![tactic(auto)]
 
-ghost use Rattle.std.specs.Prelude.{◌≡◌, ◌<◌, length};
+ghost use Rattle.std.specs.Prelude.{◌<◌, length};
 ghost use Rattle.monotone.specs.Sweep.{relax};
 ghost use Rattle.pointwise.specs.Relaxation.{Room, Stepped, Relaxes};
 ghost use Rattle.model.specs.Film.{size_of};
 ghost use Rattle.model.specs.Relaxation.{required};
-ghost use Rattle.model.specs.Accepted.{Limited};
+ghost use Rattle.grid.specs.Pull.{Aligned, Edges};
+ghost use Rattle.relaxation.specs.Rule.{required_by};
 
 use model::Film;
 use pointwise::{After, Counter, Found};
@@ -36,10 +38,10 @@ pub fn stepped(field: &mut [u32], at: usize, target: u64, ceiling: u32, c: Count
 
 // The relaxation of a cell, counted.
 pub fn relaxed(film: &Film, field: &mut [u32], at: usize, c: Counter) -> After
-    requires limited { Limited film.now }
-    requires field { (length field.old ≡ size_of film.now) × (at < size_of film.now) }
-    requires room { Room c }
-    ensures { Relaxes field.old at (required film.now field.old at) film.now.ceiling c result field.new }
+    requires aligned { Aligned film.now field.old }
+    requires inside { (at < length field.old) × Room c }
+    ensures by_index { Relaxes field.old at (required_by film.now field.old at) film.now.ceiling c result field.new }
+    ensures own { Edges film.now → at < size_of film.now → Relaxes field.old at (required film.now field.old at) film.now.ceiling c result field.new }
 {
     let pressure = field[at];
     let target = grid::cell_at(film, field, at).raise(pressure);

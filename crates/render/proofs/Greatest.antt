@@ -7,7 +7,7 @@ use native.Mathlib.Nat.{zero-mod, mod-lt, mod_self, mod-eq_of_lt, mod-add-mod, m
 use native.Mathlib.Numerals.{add-one}
 use native.Mathlib.Omega.{arith}
 use lib.ListN.{length, get_or}
-use Rattle.model.specs.Film.{Film, size_of}
+use Rattle.model.specs.Film.{Film, weighted, size_of}
 use Rattle.model.specs.Accepted.{Sized}
 use Rattle.model.specs.Report.{outranks, higher, peak_of, peak_cell, peak_line}
 use Rattle.model.proofs.Peak.{peak_is}
@@ -64,9 +64,9 @@ pub record AtPeak (f : Film) (p : List ℕ) (columns top : ℕ) : Type 0 where
   pub inside : top < length p
   pub placed : (1 ≤ columns) × (top ≤ 1024)
 
-pub at_peak : {f : Film} {columns top : ℕ} (p : List ℕ) → Sized f → columns ≡ f.columns → length p ≡ size_of f
+pub at_peak : (f : Film) {columns top : ℕ} {w : List ℕ} (p : List ℕ) → Sized (weighted f w) → columns ≡ f.columns → length p ≡ size_of f
     → top ≡ peak_of columns p (length p) → AtPeak f p columns top
-at_peak {f} {columns} {top} p s c n e =
+at_peak f {columns} {top} p s c n e =
     let is : top ≡ peak_cell f p = e ∙ ap₂ (λ (k m : ℕ). peak_of k p m) c n in
     let some : 0 < size_of f = omega (arith, mul-le-mul s.rows_some s.columns_some) in
     let inside : top < size_of f = subst (λ (k : ℕ). k < size_of f) (sym is) (peak_is f.columns p (size_of f) some).inside in

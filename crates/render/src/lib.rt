@@ -4,9 +4,9 @@
 // Proved: what is written into the lent slice is exactly the text that crate `model` defines (model/specs/Report).
 #![tactic(auto)]
 
-ghost use Rattle.std.specs.Prelude.{◌≡◌, ◌++◌, ◌+◌, ◌/◌, ◌%◌, ◌≤◌, ◌<◌, length};
+ghost use Rattle.std.specs.Prelude.{◌≡◌, List, ℕ, ◌++◌, ◌+◌, ◌/◌, ◌%◌, ◌≤◌, ◌<◌, length};
 ghost use Rattle.fault.specs.Numbers.{number_of};
-ghost use Rattle.model.specs.Film.{size_of};
+ghost use Rattle.model.specs.Film.{weighted, size_of};
 ghost use Rattle.model.specs.Accepted.{Limited};
 ghost use Rattle.model.specs.Result.{answer_as};
 ghost use Rattle.model.specs.Run.{ran_of};
@@ -77,7 +77,7 @@ pub fn put_refused(refusal: Refusal, out: &mut [u8], at: usize) -> usize
 
 // The line of one cell.
 fn put_cell(film: &Film, field: &[u32], cell: usize, out: &mut [u8], at: usize) -> usize
-    requires limited { Limited film.now }
+    requires limited { (w : List ℕ) × Limited (weighted film.now w) }
     requires field { (length field.now ≡ size_of film.now) × (cell < size_of film.now) }
     requires fits { Fits (cell_line film.now field.now cell) out.old at }
     ensures { Writes (cell_line film.now field.now cell) out.old at out.new result }
@@ -95,7 +95,7 @@ fn put_cell(film: &Film, field: &[u32], cell: usize, out: &mut [u8], at: usize) 
 
 // The lines of all cells, by index.
 fn put_cells(film: &Film, field: &[u32], out: &mut [u8], at: usize) -> usize
-    requires limited { Limited film.now }
+    requires limited { (w : List ℕ) × Limited (weighted film.now w) }
     requires field { length field.now ≡ size_of film.now }
     requires fits { Fits (cell_lines film.now field.now (size_of film.now)) out.old at }
     ensures { Writes (cell_lines film.now field.now (size_of film.now)) out.old at out.new result }
@@ -109,7 +109,7 @@ fn put_cells(film: &Film, field: &[u32], out: &mut [u8], at: usize) -> usize
 
 // What follows Done and Stopped: the cells, and the peak.
 fn put_field(film: &Film, field: &[u32], out: &mut [u8], at: usize) -> usize
-    requires limited { Limited film.now }
+    requires limited { (w : List ℕ) × Limited (weighted film.now w) }
     requires field { length field.now ≡ size_of film.now }
     requires fits { Fits (field_text film.now field.now) out.old at }
     ensures { Writes (field_text film.now field.now) out.old at out.new result }
@@ -149,7 +149,7 @@ fn put_ended(
     out: &mut [u8],
     at: usize,
 ) -> usize
-    requires limited { Limited film.now }
+    requires limited { (w : List ℕ) × Limited (weighted film.now w) }
     requires field { length field.now ≡ size_of film.now }
     requires fits { Fits (answer_line word.now counts ++ field_text film.now field.now) out.old at }
     ensures { Writes (answer_line word.now counts ++ field_text film.now field.now) out.old at out.new result }
@@ -176,7 +176,7 @@ pub fn put_answer(
     out: &mut [u8],
     at: usize,
 ) -> usize
-    requires limited { Limited film.now }
+    requires limited { (w : List ℕ) × Limited (weighted film.now w) }
     requires field { (length field.now ≡ size_of film.now) × Inside (size_of film.now) (answer_as ran_of answer) }
     requires fits { Fits (text_of film.now (answer_as ran_of answer) field.now) out.old at }
     ensures { Writes (text_of film.now (answer_as ran_of answer) field.now) out.old at out.new result }

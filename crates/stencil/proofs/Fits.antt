@@ -10,7 +10,7 @@ module _ (a b : ℕ) (h : a < 256) (k : b < 256) where
   sum_low : a + b ≤ 510
   sum_low = omega arith
 
-  square_low : (a + b) * (a + b) ≤ 510 * 510
+  pub square_low : (a + b) * (a + b) ≤ 510 * 510
   square_low = mul-le-mul sum_low sum_low
 
   pub cube_low : (a + b) * (a + b) * (a + b) ≤ 510 * 510 * 510

@@ -11,6 +11,14 @@ abbrev pub solution_of : Option Float → paper.Solution
 solution_of None = paper.none
 solution_of (Some p) = paper.value p
 
--- the proposal is the estimate of whatever field of the film the steps are of, which did not break, with the film's margin
-pub record Substituted (f : Film) (steps : List Elimination) (start margin : ℕ) (proposal : List ℕ) : Type 0 where
-  pub is : (p : List ℕ) → margin_of f ≡ margin → Eliminated f p start false steps → f.columns ≡ length proposal → proposal ≡ paper.estimate f p start
+-- a film and a field: the weights and right links are those of the film that was lent, margin its margin, and the steps its line's, which
+-- did not break
+pub record OfLine (f : Film) (p : List ℕ) (lent : Film) (steps : List Elimination) (start margin : ℕ) : Type 0 where
+  pub weights_are : f.weights ≡ lent.weights
+  pub rights_are : f.rights ≡ lent.rights
+  pub margin_is : margin_of f ≡ margin
+  pub steps_are : Eliminated f p start false steps
+
+-- the proposal is the estimate of whatever film and field that is
+pub record Substituted (lent : Film) (steps : List Elimination) (start margin : ℕ) (proposal : List ℕ) : Type 0 where
+  pub is : (f : Film) (p : List ℕ) → OfLine f p lent steps start margin → f.columns ≡ length proposal → proposal ≡ paper.estimate f p start

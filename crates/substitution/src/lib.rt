@@ -5,8 +5,6 @@
 #![tactic(auto)]
 
 ghost use Rattle.std.specs.Prelude.{◌≡◌, ◌+◌, ◌-◌, ◌*◌, ◌≤◌, length};
-ghost use Rattle.model.specs.Film.{size_of};
-ghost use Rattle.model.specs.Accepted.{Sized};
 ghost use Rattle.model.specs.Estimate.{substitute as substitute_of, whole_part};
 ghost use Rattle.chain.specs.Line.{elimination_of};
 ghost use Rattle.substitution.specs.Line.{solution_of, Substituted};
@@ -52,7 +50,7 @@ pub fn substitute_line(
     margin: u32,
     proposal: &mut [u32],
 )
-    requires sized { Sized film.now × (start + length proposal.old ≤ size_of film.now) }
+    requires row { (start + length proposal.old ≤ length film.now.weights) × (start + length proposal.old ≤ length film.now.rights) }
     requires steps { length proposal.old ≤ length steps.now }
     ensures { Substituted film.now steps.now start margin proposal.new }
 {

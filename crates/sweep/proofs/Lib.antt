@@ -1,2 +1,3 @@
--- Laws that the proofs of the functions share.
+-- Laws that the proofs of the functions, and other crates, share.
 pub mod Turn
+pub mod Film

@@ -1,13 +1,15 @@
 // Relaxations round and round by an ordering table, until a whole round of them was quiet or the budget is used.
 // Internal: the public calls of Film test their inputs and call it.
 //
-// Proved: the answer, its counts and the field are those of the theory's sweep under the film's rule.
+// Proved: the answer, its counts and the field are those of the theory's sweep under the film's rule, read by index, and so under the film's
+// own where the links that leave the grid are 0.
 #![tactic(auto)]
 
 ghost use Rattle.std.specs.Prelude.{◌≡◌, ◌<◌, length};
 ghost use Rattle.model.specs.Film.{size_of, rule};
-ghost use Rattle.model.specs.Accepted.{Limited};
+ghost use Rattle.grid.specs.Pull.{Aligned, Edges};
 ghost use Rattle.pointwise.specs.Relaxation.{Room};
+ghost use Rattle.relaxation.specs.Rule.{rule_by};
 ghost use Rattle.sweep.specs.Sweep.{Listed, Advanced, Ends};
 
 use model::Film;
@@ -23,9 +25,9 @@ pub enum Swept {
 
 // The relaxation of the cell at a place of the table.
 fn advance(film: &Film, table: &[u16], field: &mut [u32], place: usize, c: Counter) -> Step
-    requires limited { Limited film.now × (length field.old ≡ size_of film.now) }
-    requires listed { Listed table.now (size_of film.now) × ((place < length table.now) × Room c) }
-    ensures { Advanced (rule film.now) table.now field.old place c result field.new }
+    requires aligned { Aligned film.now field.old }
+    requires listed { Listed table.now (length field.old) × ((place < length table.now) × Room c) }
+    ensures { Advanced (rule_by (length table.now) film.now) table.now field.old place c result field.new }
 {
     let at = table[place] as usize;
     let after = relaxation::relaxed(film, field, at, c);
@@ -34,9 +36,10 @@ fn advance(film: &Film, table: &[u16], field: &mut [u32], place: usize, c: Count
 
 // At most as many relaxations as the budget allows, from the start of the table.
 pub fn sweep(film: &Film, table: &[u16], field: &mut [u32], budget: u64) -> Swept
-    requires limited { Limited film.now × (length field.old ≡ size_of film.now) }
-    requires listed { Listed table.now (size_of film.now) }
-    ensures { Ends (rule film.now) table.now budget field.old result field.new }
+    requires aligned { Aligned film.now field.old }
+    requires listed { Listed table.now (length field.old) × (0 < length field.old) }
+    ensures by_index { Ends (rule_by (length table.now) film.now) table.now budget field.old result field.new }
+    ensures own { Edges film.now → length field.old ≡ size_of film.now → Ends (rule film.now) table.now budget field.old result field.new }
 {
     let mut place = 0;
     let mut counter = Counter {

@@ -29,11 +29,14 @@ pub fn put<T: Copy>(out: &mut [T], at: usize, items: &[T])
     out[at..end].copy_from_slice(items);
 }
 
+// Bytes go one by one: as a block that is copied they would make an archive for C need `memmove` from outside.
 pub fn put_bytes(out: &mut [u8], at: usize, bytes: &[u8]) -> usize
     requires { Fits bytes.now out.old at }
     ensures { Writes bytes.now out.old at out.new result }
 {
-    put(out, at, bytes);
+    for i in 0..bytes.len() {
+        out[at + i] = bytes[i];
+    }
     at + bytes.len()
 }
 

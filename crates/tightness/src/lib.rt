@@ -5,9 +5,9 @@
 // for them.
 #![tactic(auto)]
 
-ghost use Rattle.std.specs.Prelude.{◌≡◌, not, ◌||◌, ◌<◌, length};
+ghost use Rattle.std.specs.Prelude.{◌≡◌, not, ◌||◌, List, ℕ, ◌<◌, length};
 ghost use Rattle.model.specs.Integers.{at_most_zero};
-ghost use Rattle.model.specs.Film.{size_of, slack};
+ghost use Rattle.model.specs.Film.{weighted, size_of, slack};
 ghost use Rattle.model.specs.Accepted.{Limited};
 ghost use Rattle.model.specs.Proposal.{rises, tight};
 ghost use Rattle.tightness.specs.Row.{Row};
@@ -16,7 +16,7 @@ use model::Film;
 
 // Whether a cell keeps its pressure, or has a slack of at most 0 in the new field.
 fn tight_at(film: &Film, field: &[u32], raised: &[u32], at: usize) -> bool
-    requires limited { Limited film.now }
+    requires limited { (w : List ℕ) × Limited (weighted film.now w) }
     requires fields { (length field.now ≡ size_of film.now) × (length raised.now ≡ size_of film.now) × (at < size_of film.now) }
     ensures { result ≡ (not (rises field.now raised.now at) || at_most_zero (slack film.now raised.now at)) }
 {
@@ -25,7 +25,7 @@ fn tight_at(film: &Film, field: &[u32], raised: &[u32], at: usize) -> bool
 
 // Whether every cell of the row that rises has a slack of at most 0 in the new field.
 pub fn tight_row(film: &Film, field: &[u32], raised: &[u32], start: usize) -> bool
-    requires limited { Limited film.now }
+    requires limited { (w : List ℕ) × Limited (weighted film.now w) }
     requires row { Row film.now start field.now raised.now }
     ensures { result ≡ tight film.now start field.now raised.now }
 {

@@ -17,6 +17,11 @@ use Rattle.text.proofs.Writes.{sets_next, sets_whole}
 use Rattle.model.proofs.Codes.{word_code, listed_length}
 use Rattle.writing.specs.Writable.{steps_bytes, file_length, Writable}
 
+-- the field of the steps has at most five bytes
+pub steps_few : (s : Option Factors) → length (steps_bytes s) ≤ 5
+steps_few None = omega arith
+steps_few (Some f) = omega arith
+
 -- the field of the steps ends behind its bytes
 steps_end : (s : Option Factors) (at : ℕ) → fields_end (present gauged_optional (steps_part s ∷ [])) at ≡ at + length (steps_bytes s)
 steps_end None at = omega arith
@@ -25,6 +30,12 @@ steps_end (Some f) at = omega arith
 pub length_known : (g : Gauge) → g.rows ≤ side_limit → g.columns ≤ side_limit → file_length g.rows g.columns g.steps ≡ gauged_end g
 unfolding file_length
 length_known g h l = rw (le-ltb side_limit g.rows h, le-ltb side_limit g.columns l) (sym (steps_end g.steps _))
+
+-- the same as a sum
+pub length_sum : (rows columns : ℕ) (s : Option Factors) → rows ≤ side_limit → columns ≤ side_limit
+    → file_length rows columns s ≡ 25 + 2 * cells rows columns + ringed rows columns + length (steps_bytes s)
+unfolding file_length
+length_sum rows columns s h l = rw (le-ltb side_limit rows h, le-ltb side_limit columns l) (omega arith)
 
 -- as a slice of the file's length has it
 pub film_length : (g : Gauge) → gauged_end g ≡ end_offset (cells g.rows g.columns) (ringed g.rows g.columns) + length (steps_bytes g.steps)

@@ -15,7 +15,7 @@ use Rattle.coefficient_reading.proofs.Numbers.{cells_are, few_cells, weights_lon
 use Rattle.coefficient_reading.proofs.tested.Goals as goal
 
 pub coefficient_test-requires : goal.coefficient_test-requires
-coefficient_test-requires c = sized c.args.file.now c.requires.0 c.args.weights.now c.requires.1
+coefficient_test-requires c = (c.args.weights.now, sized c.args.file.now c.requires.0 c.args.weights.now c.requires.1)
 
 pub returns-in_err-coefficient_test : goal.returns-in_err-coefficient_test
 returns-in_err-coefficient_test c =
@@ -41,9 +41,11 @@ weights_in-requires c =
 
 pub dominance_test-requires : goal.dominance_test-requires
 dominance_test-requires c =
-    let l = c.args.file.now in
-    limited l c.requires.0 (fine l c.requires.0 c.args.weights.now c.in_ok-coefficient_test.was c.coefficient_test.ensures) c.weights_in.new.weights
-    (c.weights_in.auto.weights ∙ c.requires.1)
+    let l = c.args.file.now in (
+      c.args.sources.now,
+      limited l c.requires.0 (fine l c.requires.0 c.args.weights.now c.in_ok-coefficient_test.was c.coefficient_test.ensures) c.weights_in.new.weights
+          (c.weights_in.auto.weights ∙ c.requires.1),
+    )
 
 pub returns : goal.returns
 returns c =

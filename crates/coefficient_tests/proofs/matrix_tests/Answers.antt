@@ -5,4 +5,4 @@ use Rattle.coefficient_tests.proofs.matrix_tests.Goals as goal
 
 pub dominance_test-requires : goal.dominance_test-requires
 dominance_test-requires c =
-    coefficient_passes c.args.film.now c.requires (passed c.coefficient_test.ensures c.in_ok-coefficient_test.was)
+    (c.args.film.now.sources, coefficient_passes c.args.film.now c.requires (passed c.coefficient_test.ensures c.in_ok-coefficient_test.was))

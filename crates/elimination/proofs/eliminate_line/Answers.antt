@@ -20,4 +20,4 @@ pub loop-j-preserved : goal.loop-j-preserved
 loop-j-preserved c =
     let whole : is_broken (elimination_of c.step-here.result) ≡ false = sym c.is_broken.ensures ∙ c.if-is_broken.false in
     going_next _ _ _ _ c.loop-j.invariant c.step-here.ensures (omega (arith, ap (λ (f : Film). f.columns) c.film.view_is)) whole
-    (c.handed_on-preceding.ensures whole)
+    (c.handed_on-preceding.ensures.whole whole)

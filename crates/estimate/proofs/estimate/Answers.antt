@@ -1,5 +1,5 @@
 -- `estimate::estimate` meets its contract: a broken line proposes zeros (`broken_zeros`), any other what the way back makes of the steps that were kept.
-use mathlib.Core.Path.{sym, ◌∙◌}
+use mathlib.Core.Path.{refl, sym, ◌∙◌}
 use native.Mathlib.Omega.{arith}
 use Rattle.substitution.proofs.Backward.{broken_zeros}
 use Rattle.estimate.proofs.estimate.Goals as goal
@@ -11,5 +11,6 @@ returns-then-eliminate_line c =
 
 pub returns-else-eliminate_line : goal.returns-else-eliminate_line
 returns-else-eliminate_line c =
-    c.substitute_line.ensures.is c.args.field.now (sym c.requires.margin) (c.if-eliminate_line.ensures)
+    c.substitute_line.ensures.is c.args.film.now c.args.field.now
+    record { weights_are = refl; rights_are = refl; margin_is = sym c.requires.margin; steps_are = c.if-eliminate_line.ensures }
     (omega (arith, c.substitute_line.auto, c.requires.row.1))

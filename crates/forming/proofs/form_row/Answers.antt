@@ -36,4 +36,4 @@ loop-i-preserved c =
     let place : (c.args.row - 1) * g.columns + c.loop-i.i < cells g.rows g.columns = place_low c.requires.ringed.0 c.requires.row refl low (omega arith) in
     let more : (c.args.row - 1) * g.columns + (c.loop-i.i + 1) ≡ (c.args.row - 1) * g.columns + c.loop-i.i + 1 = omega arith in
     rw (columns, more)
-    (written_more _ c.loop-i.invariant c.requires.room place c.args.row c.loop-i.i c.requires.row.0 low refl c.coefficients_at-cell.ensures (search rules))
+    (written_more _ c.loop-i.invariant c.requires.room place c.args.row c.loop-i.i c.requires.row.0 low refl (c.coefficients_at-cell.ensures.own c.requires.ringed.2) (search rules))

@@ -17,7 +17,7 @@ line_start-start-requires c =
 pub propose-requires-clause-limited : goal.propose-requires-clause-limited
 propose-requires-clause-limited c =
     let a = c.args in
-    (line_ready a.film.now a.field.now a.proposal.now a.line (sym c.in_ok-line_tests.ensures)).film.limited
+    (a.film.now.weights, (line_ready a.film.now a.field.now a.proposal.now a.line (sym c.in_ok-line_tests.ensures)).film.limited)
 
 pub propose-requires-clause-row : goal.propose-requires-clause-row
 propose-requires-clause-row c =

@@ -17,7 +17,7 @@ line_start-start-requires c =
 pub margin-requires : goal.margin-requires
 margin-requires c =
     let a = c.args in
-    (line_ready a.film.now a.field.now a.proposal.now a.line (sym c.in_ok-line_tests.ensures)).film
+    (a.film.now.sources, (line_ready a.film.now a.field.now a.proposal.now a.line (sym c.in_ok-line_tests.ensures)).film)
 
 pub estimate-requires-clause-accepted : goal.estimate-requires-clause-accepted
 estimate-requires-clause-accepted c =

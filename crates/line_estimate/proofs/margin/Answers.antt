@@ -11,7 +11,7 @@ use Rattle.line_estimate.proofs.margin.Goals as goal
 pub margin-requires : goal.margin-requires
 margin-requires c =
     let film = c.args.film.now in
-    (check_passes film true pass pass pass (film_own film ∙ sym c.in_ok-film_tests.ensures)).film
+    (film.sources, (check_passes film true pass pass pass (film_own film ∙ sym c.in_ok-film_tests.ensures)).film)
 
 pub returns : goal.returns
 returns c =

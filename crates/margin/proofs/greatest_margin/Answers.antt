@@ -12,5 +12,5 @@ use Rattle.margin.proofs.greatest_margin.Goals as goal
 pub returns : goal.returns
 unfolding margin
 returns c =
-    let e : c.loop-i.i ≡ size_of c.args.film.now = omega (arith, ap (λ (l : List ℕ). length l) c.requires.accepted.1, c.requires.accepted.0.limited.sized.weights_len) in
+    let e : c.loop-i.i ≡ size_of c.args.film.now = omega (arith, ap (λ (l : List ℕ). length l) c.requires.accepted.1, c.requires.accepted.0.1.limited.sized.weights_len) in
     c.loop-i.invariant ∙ ap (greatest (margin_at c.args.film.now)) e

@@ -8,6 +8,6 @@ use Rattle.margin.proofs.margin.Goals as goal
 
 pub greatest_margin-requires-clause-ones : goal.greatest_margin-requires-clause-ones
 greatest_margin-requires-clause-ones c =
-    let s = c.requires.limited.sized in
+    let s = c.requires.1.limited.sized in
     let e : length c.film.inside.weights.now ≡ size_of c.args.film.now = ap (λ (f : Film). length f.weights) c.film.view_is ∙ s.weights_len in
     rw e (ones_prefix _ 1024 (size_low s))

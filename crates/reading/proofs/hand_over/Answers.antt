@@ -12,8 +12,8 @@ returns-in_err-weighed c =
 pub put-requires : goal.put-requires
 put-requires c = omega (arith, c.requires.buffers.0, c.weighed.auto.weights, few_cells c.args.file.now c.requires.decoded.0 c.requires.decoded.1)
 
-pub put-requires-2 : goal.put-requires-2
-put-requires-2 c = omega (arith, c.requires.buffers.1, few_thicknesses c.args.file.now c.requires.decoded.0)
+pub put_bytes-requires : goal.put_bytes-requires
+put_bytes-requires c = record { room = omega (arith, c.requires.buffers.1, few_thicknesses c.args.file.now c.requires.decoded.0) }
 
 pub returns : goal.returns
 returns c =
@@ -21,4 +21,4 @@ returns c =
     (omega (arith, c.requires.buffers.0, c.weighed.auto.weights, few_cells c.args.file.now c.requires.decoded.0 c.requires.decoded.1))
     (omega (arith, c.requires.buffers.1, few_thicknesses c.args.file.now c.requires.decoded.0))
     c.put.ensures
-    c.put-2.ensures
+    c.put_bytes.ensures.bytes_are

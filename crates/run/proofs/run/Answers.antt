@@ -17,8 +17,10 @@ ready-accepted-requires c =
 
 pub relaxations-requires-clause-limited : goal.relaxations-requires-clause-limited
 relaxations-requires-clause-limited c =
-    let a = c.args in
-    (field_passes a.film.now a.field.now true (check_of c.order_test-ordered.result) pass (sym c.in_ok-field_tests.ensures)).film.limited
+    let a = c.args in (
+      a.film.now.weights,
+      (field_passes a.film.now a.field.now true (check_of c.order_test-ordered.result) pass (sym c.in_ok-field_tests.ensures)).film.limited,
+    )
 
 pub relaxations-requires-clause-field : goal.relaxations-requires-clause-field
 relaxations-requires-clause-field c =

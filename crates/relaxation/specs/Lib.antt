@@ -1,0 +1,2 @@
+-- What the contracts cite beside the model and the theory.
+pub mod Rule
