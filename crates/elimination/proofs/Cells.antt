@@ -5,7 +5,7 @@ use Prim.Native.Nat.{ℕ, ◌+◌, ◌≤◌, ◌<◌, ◌^◌}
 use native.Mathlib.Omega.{arith}
 use Rattle.model.specs.Film.{Film, size_of, pull_of}
 use Rattle.cell.specs.declared.Cell.{Cell}
-use Rattle.grid.specs.Pull.{Links, back_of, ahead_of, IsCell}
+use Rattle.grid.specs.Pull.{Links, back_of, ahead_of, Loaded}
 use Rattle.grid.proofs.Neighbours.{across_is}
 use Rattle.grid.proofs.Limited.{limited_links, edges_anyhow}
 use Rattle.elimination.specs.Line.{Held, across_of}
@@ -17,7 +17,7 @@ module _ {f : Film} {p : List ℕ} (H : Held f p) where
 
   module _ {i : ℕ} (b : i < size_of f) where
     -- the pull of the cell that was loaded is document 01's
-    pub held_pull : {cell : Cell} → IsCell cell f p i → cell.pull ≡ pull_of f p i
+    pub held_pull : {cell : Cell} → Loaded cell f p i → cell.pull ≡ pull_of f p i
     held_pull C = C.pull (edges_anyhow H.accepted.limited) b
 
     -- the products of the two vertical links are document 01's pull over the rows below and above, and small

@@ -5,13 +5,14 @@ use Prim.Native.Nat.{ℕ, ◌≤◌, ◌<◌, ◌^◌}
 use native.Mathlib.Omega.{arith}
 use lib.IntN.{ℤ}
 use lib.ListN.{length, get_or}
-use Rattle.model.specs.Film.{Film, weighted, size_of, diagonal_at, source_at, slack_of, slack}
+use Rattle.model.specs.Film.{Film, weighted, size_of, diagonal_at, source_at, pull_of, slack_of, slack}
 use Rattle.model.specs.Accepted.{Sized, Limited}
 use Rattle.model.proofs.Integers.{positive_low, negative_low}
 use Rattle.model.proofs.Lists.{get_d_low}
 use Rattle.model.proofs.Sides.{cells_low}
+use Rattle.cell.specs.Cell.{Bounded}
 use Rattle.cell.specs.declared.Cell.{Cell}
-use Rattle.grid.specs.Pull.{Links, Limits, Aligned, Edges, pull_by, IsCell}
+use Rattle.grid.specs.Pull.{Links, Limits, Aligned, Edges, pull_by, IsCell, Loaded}
 use Rattle.grid.proofs.Neighbours.{pull_is}
 
 pub size_low : {f : Film} → Sized f → size_of f ≤ 1024
@@ -71,26 +72,48 @@ module _ {f : Film} {w : List ℕ} (l : Limited (weighted f w)) where
       let a = limited_aligned l n in
       record { right = a.right; up = a.up; diagonals_len = a.diagonals_len; sources_len = a.sources_len; cell = a.cell }
 
--- a cell that was loaded, from its parts: it is within the limits that a cell asks for
-pub loads : {f : Film} {numbers : List ℕ} {i : ℕ} {r : Cell} → Aligned f numbers → i < length numbers → r.diagonal ≡ diagonal_at f i
-    → r.pull ≡ pull_by f.columns f.rights f.ups numbers i → r.pull ≤ 2 ^ 60 → r.source ≡ source_at f i → IsCell r f numbers i
-loads {f} {numbers} {i} a h d p small s =
-    let c = a.cell i h in
+-- a cell is within the limits that it asks for, where its diagonal and its source are
+within : {r : Cell} {diagonal : ℕ} {source : ℤ} → Limits diagonal source → r.diagonal ≡ diagonal → r.pull ≤ 2 ^ 60 → r.source ≡ source → Bounded r
+within l d small s =
+    record {
+      some = rw d l.some;
+      diagonal = rw d l.diagonal_low;
+      pull = small;
+      positive = rw s l.positive_low;
+      negative = rw s l.negative_low;
+    }
+
+-- what was loaded, from its parts
+pub loaded : {f : Film} {numbers : List ℕ} {i : ℕ} {r : Cell} → Aligned f numbers → i < length numbers → r.diagonal ≡ diagonal_at f i
+    → r.pull ≡ pull_by f.columns f.rights f.ups numbers i → r.pull ≤ 2 ^ 60 → r.source ≡ source_at f i → Loaded r f numbers i
+loaded {f} {numbers} {i} a h d p small s =
     record {
       diagonal = d;
       by_index = p;
       pull = λ e b. p ∙ pull_is f numbers e i b;
       source = s;
-      bounded = record {
-        some = rw d c.some;
-        diagonal = rw d c.diagonal_low;
-        pull = small;
-        positive = rw s c.positive_low;
-        negative = rw s c.negative_low;
-      };
+      bounded = within (a.cell i h) d small s;
     }
 
+-- and it is the cell, where the links that leave the grid are 0
+pub loaded_cell : {f : Film} {numbers : List ℕ} {i : ℕ} {r : Cell} → Edges f → i < size_of f → Loaded r f numbers i → IsCell r f numbers i
+loaded_cell e b k = record { diagonal = k.diagonal; pull = k.pull e b; source = k.source; bounded = k.bounded }
+
+module _ {f : Film} (l : Limited f) where
+  -- the pull by index, as the code works it out, is document 01's
+  pub limited_pull : (numbers : List ℕ) (i : ℕ) → i < size_of f → pull_by f.columns f.rights f.ups numbers i ≡ pull_of f numbers i
+  limited_pull numbers i h = pull_is f numbers (limited_edges l) i h
+
+  -- the cell of a film within its limits, from its parts
+  pub loads : (numbers : List ℕ) (i : ℕ) (r : Cell) → i < size_of f → r.diagonal ≡ diagonal_at f i
+      → r.pull ≡ pull_by f.columns f.rights f.ups numbers i → r.pull ≤ 2 ^ 60 → r.source ≡ source_at f i → IsCell r f numbers i
+  loads numbers i r h d p small s =
+      record { diagonal = d; pull = p ∙ limited_pull numbers i h; source = s; bounded = within (cell_limits l i h) d small s }
+
 -- its slack is the film's
-pub cell_slack : {f : Film} {p : List ℕ} {i : ℕ} {c : Cell} → Edges f → i < size_of f → IsCell c f p i
+pub cell_slack : {f : Film} {p : List ℕ} {i : ℕ} {c : Cell} → IsCell c f p i → slack_of c.diagonal c.pull c.source (get_or p i 0) ≡ slack f p i
+cell_slack k = rw (k.diagonal, k.pull, k.source)
+
+pub loaded_slack : {f : Film} {p : List ℕ} {i : ℕ} {c : Cell} → Edges f → i < size_of f → Loaded c f p i
     → slack_of c.diagonal c.pull c.source (get_or p i 0) ≡ slack f p i
-cell_slack e b k = rw (k.diagonal, k.pull e b, k.source)
+loaded_slack e b k = cell_slack (loaded_cell e b k)

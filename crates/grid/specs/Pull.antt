@@ -47,9 +47,15 @@ pub record Edges (f : Film) : Type 0 where
   pub right : (k : ℕ) → k < size_of f → f.columns ≤ column_of f k + 1 → right_at f k ≡ 0
   pub up : (k : ℕ) → k < size_of f → f.rows ≤ row_of f k + 1 → up_at f k ≡ 0
 
--- r is the cell i of the film, with numbers for pressures, and within its limits; its pull is worked out by index, and where the links that
--- leave the grid are 0 it is document 01's
+-- r is the cell i of the film, with numbers for pressures, and within its limits
 pub record IsCell (r : Cell) (f : Film) (numbers : List ℕ) (i : ℕ) : Type 0 where
+  pub diagonal : r.diagonal ≡ diagonal_at f i
+  pub pull : r.pull ≡ pull_of f numbers i
+  pub source : r.source ≡ source_at f i
+  pub bounded : Bounded r
+
+-- r is that cell as it is loaded: its pull is worked out by index, and where the links that leave the grid are 0 it is document 01's
+pub record Loaded (r : Cell) (f : Film) (numbers : List ℕ) (i : ℕ) : Type 0 where
   pub diagonal : r.diagonal ≡ diagonal_at f i
   pub by_index : r.pull ≡ pull_by f.columns f.rights f.ups numbers i
   pub pull : Edges f → i < size_of f → r.pull ≡ pull_of f numbers i

@@ -9,7 +9,7 @@
 ghost use Rattle.std.specs.Prelude.{◌≡◌, List, [], ℕ, ◌+◌, ◌-◌, ◌*◌, ◌≤◌, ◌<◌, ◌^◌, length, take};
 ghost use Rattle.model.specs.Film.{weighted, size_of, slack};
 ghost use Rattle.model.specs.Accepted.{Limited};
-ghost use Rattle.grid.specs.Pull.{Links, back_of, ahead_of, Product, pull_by, Aligned, IsCell};
+ghost use Rattle.grid.specs.Pull.{Links, back_of, ahead_of, Product, pull_by, Aligned, Loaded};
 
 use cell::Cell;
 use model::Film;
@@ -53,7 +53,7 @@ pub fn pull_at(rights: &[u32], ups: &[u32], columns: usize, numbers: &[u32], at:
 // A cell's diagonal, pull and source, with pressures or other numbers of the cells.
 pub fn cell_at(film: &Film, numbers: &[u32], at: usize) -> Cell
     requires { Aligned film.now numbers.now × (at < length numbers.now) }
-    ensures { IsCell result film.now numbers.now at }
+    ensures { Loaded result film.now numbers.now at }
 {
     let columns = film.head.columns as usize;
     Cell {
